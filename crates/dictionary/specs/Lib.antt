@@ -1,0 +1,7 @@
+pub mod Dictionary
+pub mod Subtype
+pub mod Below
+pub mod TypeLaws
+pub mod AttributeLaws
+pub mod SubtypeLaws
+pub mod Cases

@@ -1,0 +1,18 @@
+// The dictionary of types: the table of the page, and what follows from it. A type is its number. Every function
+// answers every number, one that is no type too.
+mod answers;
+mod kinds;
+mod parents;
+mod types;
+
+pub use answers::Attribute;
+pub use answers::Name;
+pub use answers::Parent;
+pub use kinds::attribute;
+pub use kinds::attributes;
+pub use kinds::own_attributes;
+pub use parents::parent;
+pub use parents::subtype;
+pub use types::is_type;
+pub use types::name;
+pub use types::schema;

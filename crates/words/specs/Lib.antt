@@ -1,0 +1,8 @@
+pub mod Layout
+pub mod Sets
+pub mod Fields
+pub mod Entries
+pub mod Copies
+pub mod Search
+pub mod Laws
+pub mod Cases

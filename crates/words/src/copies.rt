@@ -1,0 +1,57 @@
+// The words in use of two tables: whether they agree, and a copy from one to the other.
+ghost use mathlib.Core.Path.{_≡_};
+ghost use Prim.Native.Nat.{min};
+ghost use Rattle.words.specs.Copies.{isLong, agree as agreeing, copied};
+use crate::layout::WORDS;
+
+pub fn is_long(t: &[u64]) -> bool
+    ensures { λ r. ⌜ r ≡ isLong (now (t .entry)) ⌝ }
+{
+    WORDS <= t.len()
+}
+
+// Four words a turn, then what is left.
+pub fn agree(a: &[u64], b: &[u64]) -> bool
+    ensures { λ r. ⌜ r ≡ agreeing (now (a .entry)) (now (b .entry)) ⌝ }
+{
+    if a.len() < WORDS {
+        return false;
+    }
+    if b.len() < WORDS {
+        return false;
+    }
+    let mut i = 0;
+    while i + 4 <= WORDS {
+        if !((a[i] == b[i])
+            & (a[i + 1] == b[i + 1])
+            & (a[i + 2] == b[i + 2])
+            & (a[i + 3] == b[i + 3])) {
+            return false;
+        }
+        i += 4;
+    }
+    while i < WORDS {
+        if a[i] != b[i] {
+            return false;
+        }
+        i += 1;
+    }
+    true
+}
+
+fn least(a: usize, b: usize) -> usize
+    ensures { λ r. ⌜ r ≡ min a b ⌝ }
+{
+    if a < b { a } else { b }
+}
+
+pub fn copy(from: &[u64], to: &mut [u64])
+    ensures { λ _. ⌜ now (to .exit) ≡ copied (now (from .entry)) (now (to .entry)) ⌝ }
+{
+    let n = least(WORDS, least(from.len(), to.len()));
+    let mut i = 0;
+    while i < n {
+        to[i] = from[i];
+        i += 1;
+    }
+}
