@@ -20,7 +20,7 @@ unfoldable pub among : List ℕ → ℕ → Bool
 among [] t = false
 among (k ∷ ks) t = eqb t k || among ks t
 
-none-among : (ks : List ℕ) (t : ℕ) → NoneOf ks t → among ks t ≡ false
+pub none-among : (ks : List ℕ) (t : ℕ) → NoneOf ks t → among ks t ≡ false
 unfolding among
 none-among [] t n = refl
 none-among (k ∷ ks) t n = rw (ne-eqb t k (n .1)) (none-among ks t (n .0))

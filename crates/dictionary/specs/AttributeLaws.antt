@@ -15,6 +15,7 @@ use Rattle.dictionary.specs.declared.answers.Attribute.{Attribute}
 use Rattle.dictionary.specs.declared.answers.Attribute.the-variants.{Lacking, Whole, Reference}
 use Rattle.dictionary.specs.Below.{allBelow, allIn, within, decided}
 use Rattle.dictionary.specs.Dictionary.{
+  lacks,
   types,
   isType,
   parentOf,
@@ -43,11 +44,6 @@ of-attribute f e t k h =
     ⊎-elim (λ i. within (f t) (attributesOf t) Lacking (of-type (λ t. allIn (f t) (attributesOf t)) e t i) k h)
     (λ i. absurd (not-suc-le-zero (rw (no-type-attributes t i) at h)))
     (decided (isType t))
-
-abbrev pub lacks : Attribute → Bool
-lacks Lacking = true
-lacks Whole = false
-lacks (Reference u) = false
 
 -- what f says of the type that a reference leads to
 abbrev pub refers : (ℕ → Bool) → Attribute → Bool

@@ -1,5 +1,5 @@
 -- The dictionary of types. `dictionary` is the page's table, row by row; every other definition is derived from it.
-use mathlib.Core.Bool.{Bool}
+use mathlib.Core.Bool.{Bool, true, false}
 use mathlib.Core.List.{List, [], _∷_, _++_}
 use Prim.Native.Nat.{ℕ, zero, suc, _-_}
 use Prim.Native.Char.{code}
@@ -102,6 +102,12 @@ attributesOf t = climb [] (λ u inherited. inherited ++ ownOf u) t
 
 unfoldable pub attributeOf : ℕ → ℕ → Attribute
 attributeOf t k = getD (attributesOf t) k Lacking
+
+-- a type has no such attribute
+abbrev pub lacks : Attribute → Bool
+lacks Lacking = true
+lacks Whole = false
+lacks (Reference t) = false
 
 -- an `unfolding` line that names this opens the table and all that is read off it
 unfoldable pub the-table : Unit {0}

@@ -3,5 +3,6 @@ pub mod Subtype
 pub mod Below
 pub mod TypeLaws
 pub mod AttributeLaws
+pub mod References
 pub mod SubtypeLaws
 pub mod Cases

@@ -11,6 +11,7 @@ pub use answers::Parent;
 pub use kinds::attribute;
 pub use kinds::attributes;
 pub use kinds::own_attributes;
+pub use kinds::references;
 pub use parents::parent;
 pub use parents::subtype;
 pub use types::is_type;

@@ -5,7 +5,8 @@ ghost use Rattle.words.specs.Sets.{none, has as hasBit, insert, remove, 
 
 pub const EMPTY: u64 = 0;
 
-const BITS: u32 = 64;
+// A word has a place for each number below this.
+pub const BITS: u32 = 64;
 
 pub fn has(set: u64, m: u32) -> bool
     ensures { λ r. ⌜ r ≡ hasBit set m ⌝ }

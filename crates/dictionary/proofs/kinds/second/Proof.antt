@@ -4,8 +4,8 @@ use mathlib.Core.List.{[], _∷_}
 use Prim.Native.Nat.{ℕ}
 use Rattle.dictionary.specs.declared.answers.Attribute.{Attribute}
 use Rattle.dictionary.specs.Below.{allBelow}
-use Rattle.dictionary.specs.Dictionary.{attributeOf, the-table}
-use Rattle.dictionary.specs.AttributeLaws.{lacks, lacking, no-type-attribute}
+use Rattle.dictionary.specs.Dictionary.{attributeOf, lacks, the-table}
+use Rattle.dictionary.specs.AttributeLaws.{lacking, no-type-attribute}
 use Rattle.dictionary.proofs.Arms.{among, default}
 use Rattle.dictionary.proofs.kinds.second.Statement.{statement}
 use Rattle.dictionary.proofs.kinds.second.Tie as tie

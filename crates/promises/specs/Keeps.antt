@@ -1,0 +1,20 @@
+-- What the theorems rest on: soundness as statements, the ways that a call goes, and that each change of a table keeps it sound.
+pub mod Tests
+pub mod Range
+pub mod Ways
+pub mod Facts
+pub mod SessionFacts
+pub mod Frame
+pub mod Edited
+pub mod Group
+pub mod Written
+pub mod Values
+pub mod Swept
+pub mod Removed
+pub mod Copied
+pub mod Log
+pub mod Afterwards
+pub mod Sessions
+pub mod Access
+pub mod Changed
+pub mod Done

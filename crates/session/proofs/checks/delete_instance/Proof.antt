@@ -1,0 +1,26 @@
+-- The checks one after the other: past those whose condition fails, at the first whose condition holds.
+use mathlib.Core.Path.{sym, ap, _∙_}
+use mathlib.Core.Bool.{not}
+use Rattle.session.specs.Laws.Checks.{passed, stopped, no-more}
+use borrow.Author.Needs.{needs}
+use Rattle.session.proofs.checks.delete_instance.Statement.{statement}
+use Rattle.session.proofs.checks.delete_instance.Tie as tie
+
+gone-requires : tie.Need-gone-requires
+gone-requires c κs = search needs
+
+returns : tie.Need-returns
+returns c = sym (stopped _ _ _ (sym (c .before .gone .ensures) ∙ c .if1 .taken))
+
+instance-held-requires : tie.Need-instance-held-requires
+instance-held-requires c κs = search needs
+
+returns-2 : tie.Need-returns-2
+returns-2 c = sym (passed _ _ _ (sym (c .before .before .before .gone .ensures) ∙ c .before .before .if1 .left) ∙ stopped _ _ _ (sym (c .before .instance-held .ensures) ∙ c .if2 .taken))
+
+returns-3 : tie.Need-returns-3
+returns-3 c = sym (passed _ _ _ (sym (c .before .before .before .gone .ensures) ∙ c .before .before .if1 .left) ∙ passed _ _ _ (sym (c .before .instance-held .ensures) ∙ c .if2 .left) ∙ no-more)
+
+pub delete-instance-spec : {M : Type 1} → statement M
+delete-instance-spec =
+    tie.close (tie.spec gone-requires returns instance-held-requires returns-2 returns-3)

@@ -1,0 +1,13 @@
+-- The condition is the definition's, each part by its function's contract.
+use borrow.Author.Needs.{needs}
+use Rattle.session.proofs.conditions.no_writing.Statement.{statement}
+use Rattle.session.proofs.conditions.no_writing.Tie as tie
+
+has-requires : tie.Need-has-requires
+has-requires c κs = search needs
+
+returns : tie.Need-returns
+returns c = rw (c .has .ensures)
+
+pub no-writing-spec : {M : Type 1} → statement M
+no-writing-spec = tie.close (tie.spec has-requires returns)

@@ -1,0 +1,22 @@
+-- The branch is the definition's test of the state at entry.
+use mathlib.Core.Path.{sym, ap, _∙_}
+use mathlib.Core.Bool.{Bool, _&&_}
+use lib.Dec.{eqb}
+use borrow.Author.Needs.{needs}
+use Rattle.session.proofs.events.noted.Statement.{statement}
+use Rattle.session.proofs.events.noted.Tie as tie
+
+is-open-requires : tie.Need-is-open-requires
+is-open-requires c κs = search needs
+
+added-requires : tie.Need-added-requires
+added-requires c κs = search needs
+
+returns : tie.Need-returns
+returns c = rw (ap (λ (b : Bool). b && eqb (c .before .before .before .before .before .before .args .x .state .recording) 1) (sym (c .before .before .before .is-open .ensures)) ∙ c .before .if1 .taken, c .added .ensures)
+
+returns-2 : tie.Need-returns-2
+returns-2 c = rw (ap (λ (b : Bool). b && eqb (c .before .before .before .before .before .args .x .state .recording) 1) (sym (c .before .before .is-open .ensures)) ∙ c .if1 .left)
+
+pub noted-spec : {M : Type 1} → statement M
+noted-spec = tie.close (tie.spec is-open-requires added-requires returns returns-2)

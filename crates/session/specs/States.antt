@@ -1,0 +1,90 @@
+-- The session: the parts of its state that operations name, and its log of events.
+use Prim.Native.Nat.{ℕ, _+_}
+use mathlib.Core.Bool.{Bool, cond, not, _&&_, _||_}
+use mathlib.Core.List.{List, [], _∷_, _++_}
+use lib.Dec.{eqb, ltb}
+use lib.ListN.{getD, set, drop, replicate}
+use Rattle.words.specs.Sets.{none}
+use Rattle.session.specs.declared.state.State.{State}
+use Rattle.session.specs.declared.state.Event.{Event}
+use Rattle.session.specs.declared.state.Log.{Log}
+use Rattle.session.specs.declared.state.Session.{Session}
+
+-- "transaction none, RO, RW or aborted"
+abbrev pub NONE : ℕ
+NONE = 0
+
+abbrev pub RO : ℕ
+RO = 1
+
+abbrev pub RW : ℕ
+RW = 2
+
+abbrev pub ABORTED : ℕ
+ABORTED = 3
+
+abbrev pub isOpen : State → Bool
+isOpen s = eqb (s .opened) 1
+
+abbrev pub under : State → ℕ → Bool
+under s transaction = eqb (s .transaction) transaction
+
+-- a state with one part changed
+
+abbrev pub withRecording : State → ℕ → State
+withRecording s on = record { opened = s .opened; recording = on; transaction = s .transaction; repositories = s .repositories; ro = s .ro; rw = s .rw }
+
+abbrev pub withTransaction : State → ℕ → State
+withTransaction s x = record { opened = s .opened; recording = s .recording; transaction = x; repositories = s .repositories; ro = s .ro; rw = s .rw }
+
+abbrev pub withRepositories : State → ℕ → State
+withRepositories s r = record { opened = s .opened; recording = s .recording; transaction = s .transaction; repositories = r; ro = s .ro; rw = s .rw }
+
+abbrev pub withAccess : State → ℕ → ℕ → State
+withAccess s ro rw = record { opened = s .opened; recording = s .recording; transaction = s .transaction; repositories = s .repositories; ro = ro; rw = rw }
+
+-- "all access ends"
+abbrev pub ended : State → ℕ → State
+ended s transaction = withTransaction (withAccess s none none) transaction
+
+-- "everything in a closed session" is blank; an open one begins with "recording on, no events"
+abbrev pub closedState : State
+closedState = record { opened = 0; recording = 0; transaction = NONE; repositories = none; ro = none; rw = none }
+
+abbrev pub openedState : State
+openedState = record { opened = 1; recording = 1; transaction = NONE; repositories = none; ro = none; rw = none }
+
+-- ---- events
+
+-- "at most 16 events"
+abbrev pub places : ℕ
+places = 16
+
+abbrev pub event : ℕ → ℕ → Event
+event op refusal = record { op = op; refusal = refusal }
+
+abbrev pub blankEvent : Event
+blankEvent = event 0 0
+
+abbrev pub log : ℕ → List Event → Log
+log n events = record { count = n; events = events }
+
+abbrev pub blankLog : Log
+blankLog = log 0 (replicate places blankEvent)
+
+-- "an event is added, the oldest of sixteen dropping out"
+abbrev pub shifted : List Event → Event → List Event
+shifted events e = drop 1 events ++ (e ∷ [])
+
+abbrev pub added : Log → Event → Log
+added l e = cond (ltb (l .count) places) (log (l .count + 1) (set (l .events) (l .count) e)) (log (l .count) (shifted (l .events) e))
+
+abbrev pub session : State → Log → Session
+session s l = record { state = s; log = l }
+
+-- "If the session is open and recording, an event is added": as it was at entry
+abbrev pub noted : Session → ℕ → ℕ → Session
+noted x op refusal =
+    cond (isOpen (x .state) && eqb (x .state .recording) 1)
+    (session (x .state) (added (x .log) (event op refusal)))
+    x

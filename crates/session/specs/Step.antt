@@ -1,0 +1,59 @@
+-- One call: answer, session and tables after it.
+use Prim.Native.Nat.{ℕ}
+use mathlib.Core.Bool.{cond}
+use mathlib.Core.List.{List}
+use lib.Dec.{eqb}
+use Rattle.session.specs.declared.state.Log.{Log}
+use Rattle.session.specs.declared.state.State.{State}
+use Rattle.session.specs.declared.state.Session.{Session}
+use Rattle.session.specs.declared.state.Answer.{Answer}
+use Rattle.session.specs.Refusals.{SY-ERR, done}
+use Rattle.session.specs.Operations.{operationOf}
+use Rattle.session.specs.States.{isOpen, blankLog, session, noted}
+use Rattle.session.specs.Sound.{sound}
+use Rattle.session.specs.Checks.{refusalOf}
+use Rattle.session.specs.declared.effects.Effect.{Effect}
+use Rattle.session.specs.Effects.{workingAfter, keptAfter, effect}
+
+pub record Outcome : Type 0 where
+  pub answer : Answer
+  pub working : List ℕ
+  pub kept : List ℕ
+
+abbrev pub answer : ℕ → ℕ → Session → Answer
+answer refusal value x = record { refusal = refusal; value = value; session = x }
+
+abbrev pub outcome : Answer → List ℕ → List ℕ → Outcome
+outcome a w k = record { answer = a; working = w; kept = k }
+
+-- "A refusal returns value 0": one event is all it may add
+abbrev pub refusedAnswer : ℕ → ℕ → Session → Answer
+refusedAnswer op refusal x = answer refusal 0 (noted x op refusal)
+
+-- ".. and changes no table word."
+abbrev pub refused : ℕ → ℕ → Session → List ℕ → List ℕ → Outcome
+refused op refusal x w k = outcome (refusedAnswer op refusal x) w k
+
+-- a closed session has no events
+abbrev pub logAfter : State → Log → Log
+logAfter s l = cond (isOpen s) l blankLog
+
+abbrev pub finishedAnswer : ℕ → Session → ℕ → ℕ → State → Answer
+finishedAnswer op x refusal value s = cond (eqb refusal done) (answer done value (session s (logAfter s (x .log)))) (refusedAnswer op refusal x)
+
+-- where room is wanting the effect leaves the tables as they are
+abbrev pub finished : ℕ → Session → List ℕ → List ℕ → Effect → Outcome
+finished op x w k e =
+    outcome (finishedAnswer op x (e .refusal) (e .value) (e .state)) (workingAfter (e .tables) w k) (keptAfter (e .tables) w k)
+
+-- a call on a sound state
+abbrev pub decided : ℕ → ℕ → Session → List ℕ → List ℕ → Effect → Outcome
+decided op refusal x w k e = cond (eqb refusal done) (finished op x w k e) (refused op refusal x w k)
+
+unfoldable pub core : ℕ → ℕ → ℕ → ℕ → Session → List ℕ → List ℕ → Outcome
+core op a b c x w k =
+    decided op (refusalOf (operationOf op) a b c (x .state) w) x w k (effect (operationOf op) a b c (x .state) w)
+
+-- "First for every call: SY_ERR if anything above is unsound"; "SY_ERR adds none and returns the session as given"
+unfoldable pub step : ℕ → ℕ → ℕ → ℕ → Session → List ℕ → List ℕ → Outcome
+step op a b c x w k = cond (sound x w k) (core op a b c x w k) (outcome (answer SY-ERR 0 x) w k)

@@ -1,0 +1,84 @@
+// One call. `call` judges whatever comes in; `core` is the machine without that judgement, for a caller whose state is
+// proved sound.
+ghost use mathlib.Core.Path.{_≡_};
+ghost use Rattle.session.specs.Effects.{workingAfter, keptAfter};
+ghost use Rattle.session.specs.Sound.{sound as soundState};
+ghost use Rattle.session.specs.Step.{outcome, core as coreOf, step};
+use crate::answers::finished;
+use crate::answers::refused;
+use crate::effects::Tables;
+use crate::effects::effect_of;
+use crate::operations::operation_of;
+use crate::refusal::refusal;
+use crate::refusals;
+use crate::sound::sound_session;
+use crate::state::Answer;
+use crate::state::RW;
+use crate::state::Session;
+use crate::state::under;
+use tables::changes::apply;
+use tables::sound::sound_tables;
+use words::copies::copy;
+
+// What becomes of the tables.
+fn settle(tables: Tables, working: &mut [u64], kept: &mut [u64])
+    ensures { λ _. ⌜ (now (working .exit) ≡ workingAfter tables (now (working .entry)) (now (kept .entry))) × (now (kept .exit) ≡ keptAfter tables (now (working .entry)) (now (kept .entry))) ⌝ }
+{
+    match tables {
+        Tables::Stay => {}
+        Tables::Commit => copy(working, kept),
+        Tables::Drop => copy(kept, working),
+        Tables::Changed(change) => apply(working, change),
+    }
+}
+
+pub fn core(
+    op: u32,
+    a: u32,
+    b: u32,
+    c: u32,
+    x: Session,
+    working: &mut [u64],
+    kept: &mut [u64],
+) -> Answer
+    ensures { λ r. ⌜ outcome r (now (working .exit)) (now (kept .exit)) ≡ coreOf op a b c x (now (working .entry)) (now (kept .entry)) ⌝ }
+{
+    let state = x.state;
+    let operation = operation_of(op);
+    let n = refusal(operation, a, b, c, state, working);
+    if n != refusals::DONE {
+        return refused(op, n, x);
+    }
+    let e = effect_of(operation, a, b, c, state, working);
+    let tables = e.tables;
+    settle(tables, working, kept);
+    finished(op, x, e.refusal, e.value, e.state)
+}
+
+fn is_sound(x: Session, working: &[u64], kept: &[u64]) -> bool
+    ensures { λ r. ⌜ r ≡ soundState x (now (working .entry)) (now (kept .entry)) ⌝ }
+{
+    let state = x.state;
+    sound_tables(under(state, RW), working, kept) & sound_session(x, working)
+}
+
+pub fn call(
+    op: u32,
+    a: u32,
+    b: u32,
+    c: u32,
+    x: Session,
+    working: &mut [u64],
+    kept: &mut [u64],
+) -> Answer
+    ensures { λ r. ⌜ outcome r (now (working .exit)) (now (kept .exit)) ≡ step op a b c x (now (working .entry)) (now (kept .entry)) ⌝ }
+{
+    if !is_sound(x, working, kept) {
+        return Answer {
+            refusal: refusals::SY_ERR,
+            value: 0,
+            session: x,
+        };
+    }
+    core(op, a, b, c, x, working, kept)
+}

@@ -1,0 +1,127 @@
+// A session, as a caller holds it between calls: integers alone, every bit pattern a value, and the test of soundness
+// judges each.
+ghost use mathlib.Core.Path.{_≡_};
+ghost use Rattle.session.specs.States.{isOpen, under as isUnder, withRecording, withTransaction, withRepositories, withAccess, ended as endedState, closedState, openedState};
+use words::sets::EMPTY;
+
+// The transaction of a session.
+pub const NONE: u32 = 0;
+
+pub const RO: u32 = 1;
+
+pub const RW: u32 = 2;
+
+pub const ABORTED: u32 = 3;
+
+// What the operations see and change. The sets have bit m for model m, bit r for repository r.
+#[repr(C)]
+pub struct State {
+    pub opened: u32,
+    pub recording: u32,
+    pub transaction: u32,
+    pub repositories: u64,
+    pub ro: u64,
+    pub rw: u64,
+}
+
+// A refusal and the operation that it was given to.
+#[repr(C)]
+pub struct Event {
+    pub op: u32,
+    pub refusal: u32,
+}
+
+// The events that are recorded, oldest first: the first `count` places.
+#[repr(C)]
+pub struct Log {
+    pub count: u32,
+    pub events: [Event; 16],
+}
+
+#[repr(C)]
+pub struct Session {
+    pub state: State,
+    pub log: Log,
+}
+
+#[repr(C)]
+pub struct Answer {
+    pub refusal: u32,
+    pub value: u32,
+    pub session: Session,
+}
+
+pub fn is_open(s: State) -> bool
+    ensures { λ r. ⌜ r ≡ isOpen s ⌝ }
+{
+    s.opened == 1
+}
+
+// The session has this transaction.
+pub fn under(s: State, transaction: u32) -> bool
+    ensures { λ r. ⌜ r ≡ isUnder s transaction ⌝ }
+{
+    s.transaction == transaction
+}
+
+pub fn with_recording(mut s: State, on: u32) -> State
+    ensures { λ r. ⌜ r ≡ withRecording s on ⌝ }
+{
+    s.recording = on;
+    s
+}
+
+pub fn with_transaction(mut s: State, transaction: u32) -> State
+    ensures { λ r. ⌜ r ≡ withTransaction s transaction ⌝ }
+{
+    s.transaction = transaction;
+    s
+}
+
+pub fn with_repositories(mut s: State, repositories: u64) -> State
+    ensures { λ r. ⌜ r ≡ withRepositories s repositories ⌝ }
+{
+    s.repositories = repositories;
+    s
+}
+
+pub fn with_access(mut s: State, ro: u64, rw: u64) -> State
+    ensures { λ r. ⌜ r ≡ withAccess s ro rw ⌝ }
+{
+    s.ro = ro;
+    s.rw = rw;
+    s
+}
+
+// All access ends.
+pub fn ended(s: State, transaction: u32) -> State
+    ensures { λ r. ⌜ r ≡ endedState s transaction ⌝ }
+{
+    with_transaction(with_access(s, EMPTY, EMPTY), transaction)
+}
+
+pub fn closed_state() -> State
+    ensures { λ r. ⌜ r ≡ closedState ⌝ }
+{
+    State {
+        opened: 0,
+        recording: 0,
+        transaction: NONE,
+        repositories: EMPTY,
+        ro: EMPTY,
+        rw: EMPTY,
+    }
+}
+
+pub fn opened_state() -> State
+    ensures { λ r. ⌜ r ≡ openedState ⌝ }
+{
+    State {
+        opened: 1,
+        recording: 1,
+        transaction: NONE,
+        repositories: EMPTY,
+        ro: EMPTY,
+        rw: EMPTY,
+    }
+}

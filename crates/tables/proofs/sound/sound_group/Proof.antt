@@ -1,0 +1,54 @@
+-- A free entry's set is empty. A live one's is held to the models of its label's schema, which is what `group-by-sets` says.
+use mathlib.Core.Path.{sym, ap, _∙_}
+use Rattle.words.specs.Fields.{isFree}
+use Rattle.tables.specs.Sound.{soundGroup}
+use Rattle.tables.specs.Laws.Live.{group-by-sets}
+use borrow.Author.Needs.{needs}
+use Rattle.tables.proofs.sound.sound_group.Statement.{statement}
+use Rattle.tables.proofs.sound.sound_group.Tie as tie
+
+label-at-requires : tie.Need-label-at-requires
+label-at-requires c κs = search needs
+
+set-at-requires : tie.Need-set-at-requires
+set-at-requires c κs = search needs
+
+is-free-requires : tie.Need-is-free-requires
+is-free-requires c κs = search needs
+
+is-empty-requires : tie.Need-is-empty-requires
+is-empty-requires c κs = search needs
+
+returns : tie.Need-returns
+unfolding soundGroup
+returns c = rw (sym (ap isFree (c .before .before .before .before .label-at .ensures)) ∙ sym (c .before .before .is-free .ensures) ∙ c .before .if1 .taken, c .is-empty .ensures, c .before .before .before .set-at .ensures)
+
+is-label-requires : tie.Need-is-label-requires
+is-label-requires c κs = search needs
+
+schema-in-requires : tie.Need-schema-in-requires
+schema-in-requires c κs = search needs
+
+of-schema-requires : tie.Need-of-schema-requires
+of-schema-requires c κs = search needs
+
+is-within-requires : tie.Need-is-within-requires
+is-within-requires c κs = search needs
+
+returns-2 : tie.Need-returns-2
+returns-2 c = rw (c .before .before .before .is-label .ensures, c .is-within .ensures, c .before .of-schema .ensures, c .before .before .schema-in .ensures, c .before .before .before .before .before .before .before .before .before .pre, c .before .before .before .before .before .before .before .label-at .ensures, c .before .before .before .before .before .before .set-at .ensures) (group-by-sets (c .before .before .before .before .before .before .before .before .before .args .t .now) (c .before .before .before .before .before .before .before .before .before .args .s) (sym (ap isFree (c .before .before .before .before .before .before .before .label-at .ensures)) ∙ sym (c .before .before .before .before .before .is-free .ensures) ∙ c .before .before .before .before .if1 .left))
+
+pub sound-group-spec : {M : Type 1} → statement M
+sound-group-spec =
+    tie.close
+    (tie.spec
+    label-at-requires
+    set-at-requires
+    is-free-requires
+    is-empty-requires
+    returns
+    is-label-requires
+    schema-in-requires
+    of-schema-requires
+    is-within-requires
+    returns-2)

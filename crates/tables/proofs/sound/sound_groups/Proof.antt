@@ -1,0 +1,60 @@
+-- Every schema instance passed is sound. The measure is those left.
+use mathlib.Core.Path.{_≡_, refl, sym, _∙_}
+use mathlib.Core.Bool.{true}
+use Prim.Native.Nat.{_≤_, _-_}
+use native.Mathlib.Omega.{arith}
+use borrow.Author.Needs.{needs}
+use borrow.Author.Tests.{not-true, not-false}
+use Rattle.words.specs.declared.layout.Kind.the-variants.{SchemaInstance}
+use Rattle.words.specs.Layout.{countOf}
+use Rattle.words.specs.Search.{allB}
+use Rattle.words.specs.Laws.Search.{all-more, all-stop, all-done}
+use Rattle.tables.specs.Sound.{soundGroup}
+use Rattle.tables.proofs.sound.sound_groups.Statement.{statement}
+use Rattle.tables.proofs.sound.sound_groups.Tie as tie
+
+abbrev Inv-loop : tie.InvT-loop
+Inv-loop t live n s₀ s = (s ≤ n) × (n ≡ countOf SchemaInstance) × (allB s (soundGroup t) ≡ true)
+
+abbrev μ-loop : tie.MeasureT-loop
+μ-loop t live n s₀ s = n - s
+
+count-requires : tie.Need-count-requires Inv-loop μ-loop
+count-requires c κs = search needs
+
+loop-holds : tie.Need-loop-holds Inv-loop μ-loop
+unfolding allB
+loop-holds c = (omega arith, c .count .ensures, refl)
+
+sound-group-requires : tie.Need-sound-group-requires Inv-loop μ-loop
+sound-group-requires c κs = c .before .before .before .before .pre
+
+returns : tie.Need-returns Inv-loop μ-loop
+returns c = sym (all-stop (countOf SchemaInstance) (soundGroup (c .before .before .before .before .before .before .args .t .now)) (c .before .before .before .loop .s) (omega arith) (sym (c .before .sound-group .ensures) ∙ not-true _ (c .if1 .taken)))
+
+add-s : tie.Need-add-s Inv-loop μ-loop
+add-s c = omega arith
+
+loop-less : tie.Need-loop-less Inv-loop μ-loop
+loop-less c = omega arith
+
+loop-again : tie.Need-loop-again Inv-loop μ-loop
+loop-again c = (omega arith, c .before .before .before .loop .inv .1, all-more (soundGroup (c .before .before .before .before .before .before .args .t .now)) (c .before .before .before .loop .s) (c .before .before .before .loop .inv .2) (sym (c .before .sound-group .ensures) ∙ not-false _ (c .if1 .left)))
+
+returns-2 : tie.Need-returns-2 Inv-loop μ-loop
+returns-2 c = sym (all-done (soundGroup (c .before .before .before .before .args .t .now)) (countOf SchemaInstance) (c .before .loop .s) (omega arith) (omega arith) (c .before .loop .inv .2))
+
+pub sound-groups-spec : {M : Type 1} → statement M
+sound-groups-spec =
+    tie.close
+    (tie.spec
+    Inv-loop
+    μ-loop
+    count-requires
+    loop-holds
+    sound-group-requires
+    returns
+    add-s
+    loop-less
+    loop-again
+    returns-2)

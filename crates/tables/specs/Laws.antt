@@ -1,0 +1,9 @@
+-- What callers cite of the definitions.
+pub mod Tests
+pub mod Sound
+pub mod Live
+pub mod Values
+pub mod Names
+pub mod Going
+pub mod References
+pub mod Changes

@@ -1,0 +1,113 @@
+-- The sets of live models: their members, and that the tests by one word are those of Sound.antt.
+use mathlib.Core.Path.{_≡_, refl, sym, ap, _∙_}
+use mathlib.Core.Bool.{Bool, true, false, cond, not, _&&_, _||_}
+use mathlib.Core.Logic.{⊎-elim}
+use mathlib.Core.List.{List}
+use Prim.Native.Nat.{ℕ, zero, suc, _/_, _%_, _^_, min, _≤_, _<_}
+use native.Mathlib.Nat.{eq-or-lt-of-le, le-of-suc-le-suc}
+use native.Mathlib.Omega.{arith}
+use lib.Dec.{eqb}
+use lib.Bits.{bitAnd, and-step, and-shr, and-le-l}
+use borrow.Author.Tests.{eq-eqb, ne-eqb, eqb-true, eqb-false}
+use Rattle.words.specs.declared.layout.Kind.the-variants.{Model, SchemaInstance}
+use Rattle.words.specs.Layout.{countOf}
+use Rattle.words.specs.Search.{allB}
+use Rattle.words.specs.Sets.{bits, bitOf, has}
+use Rattle.words.specs.Fields.{schemaIn, typeIn, modelIn, isLabel, isHeader}
+use Rattle.words.specs.Entries.{freeAt}
+use Rattle.words.specs.Laws.Bools.{and-right}
+use Rattle.words.specs.Laws.Decides.{equal, every, restated}
+use Rattle.words.specs.Laws.Sets.{has-none, has-insert, same-members}
+use Rattle.words.specs.Laws.Fields.{Label, label-test, header-test}
+use Rattle.dictionary.specs.Dictionary.{isType, schemaOf}
+use Rattle.dictionary.specs.TypeLaws.{type-schema}
+use Rattle.tables.specs.View.{isLive, labelAt, setAt}
+use Rattle.tables.specs.Sound.{mayJoin, soundGroup, soundHeader}
+use Rattle.tables.specs.Live.{isOf, withIf, liveOf, liveIn, ofSchema, within, headerFits}
+use Rattle.tables.specs.Laws.Tests.{itself, implied, same-test, all-same}
+
+-- ---- a set within another
+
+and-bits : (s o m : ℕ) → bitOf (bitAnd s o) m ≡ min (bitOf s m) (bitOf o m)
+and-bits s o m = ap (λ (x : ℕ). x % 2) (and-shr s o m) ∙ omega (arith, and-step (s / 2 ^ m) (o / 2 ^ m))
+
+test-least : (x y : ℕ) → x < 2 → y < 2 → eqb (min x y) 1 ≡ (eqb x 1 && eqb y 1)
+test-least zero y hx hy =
+    let e : min 0 y ≡ 0 = omega arith in
+    rw e
+test-least (suc zero) zero hx hy = refl
+test-least (suc zero) (suc zero) hx hy = refl
+test-least (suc zero) (suc (suc y)) hx hy = absurd (omega arith)
+test-least (suc (suc x)) y hx hy = absurd (omega arith)
+
+has-and : (s o m : ℕ) → has (bitAnd s o) m ≡ (has s m && has o m)
+has-and s o m = ap (λ (x : ℕ). eqb x 1) (and-bits s o m) ∙ test-least (bitOf s m) (bitOf o m) (omega arith) (omega arith)
+
+-- the machine's test of it
+pub within-by-and : (s o : ℕ) → s < 2 ^ bits → eqb (bitAnd s o) s ≡ within s o
+within-by-and s o h =
+    same-test _ _
+    (restated (equal (bitAnd s o) s) (λ e m l p. member e m p) (λ w. same-members (bitAnd s o) s (omega (arith, and-le-l s o)) h (λ m l. kept m (has s m) refl (w m l))))
+    (every bits _ (λ m. has s m ≡ true → has o m ≡ true) (λ m. implied _ _ (itself (has s m)) (itself (has o m))))
+  where
+    member : bitAnd s o ≡ s → (m : ℕ) → has s m ≡ true → has o m ≡ true
+    member e m p = and-right (has s m) (has o m) (sym (has-and s o m) ∙ ap (λ (x : ℕ). has x m) e ∙ p)
+
+    kept : (m : ℕ) (b : Bool) → has s m ≡ b → (has s m ≡ true → has o m ≡ true) → has (bitAnd s o) m ≡ has s m
+    kept m true p w = has-and s o m ∙ rw (w p, p)
+    kept m false p w = has-and s o m ∙ rw p
+
+-- ---- the members of the sets
+
+has-own : (b : Bool) (s n : ℕ) → n < bits → has s n ≡ false → has (withIf b s n) n ≡ b
+has-own true s n l h = has-insert s n n l ∙ rw (eq-eqb n n refl)
+has-own false s n l h = h
+
+has-other : (b : Bool) (s n m : ℕ) → n < bits → (m ≡ n → ⊥) → has (withIf b s n) m ≡ has s m
+has-other true s n m l apart = has-insert s n m l ∙ rw (ne-eqb m n apart)
+has-other false s n m l apart = refl
+
+module _ (t : List ℕ) (schema : ℕ) where
+  live-later : (n m : ℕ) → n ≤ bits → n ≤ m → has (liveOf t schema n) m ≡ false
+  unfolding liveOf
+  live-later zero m h l = has-none m
+  live-later (suc n) m h l = has-other (isOf schema (labelAt t Model n)) (liveOf t schema n) n m (omega arith) (λ e. omega arith) ∙ live-later n m (omega arith) (omega arith)
+
+  live-member : (n m : ℕ) → n ≤ bits → m < n → has (liveOf t schema n) m ≡ isOf schema (labelAt t Model m)
+  unfolding liveOf
+  live-member zero m h l = absurd (omega arith)
+  live-member (suc n) m h l =
+      ⊎-elim (λ e. rw e (has-own (isOf schema (labelAt t Model n)) (liveOf t schema n) n (omega arith) (live-later n n (omega arith) (omega arith))))
+      (λ k. has-other (isOf schema (labelAt t Model n)) (liveOf t schema n) n m (omega arith) (λ e. omega arith) ∙ live-member n m (omega arith) k)
+      (eq-or-lt-of-le (le-of-suc-le-suc l))
+
+  -- both schemas
+  pub live-of-schema : 1 ≤ schema → schema ≤ 2 → (m : ℕ) → m < bits → has (ofSchema (liveIn t) schema) m ≡ isOf schema (labelAt t Model m)
+  live-of-schema l h m k = told (eqb schema 1) refl
+    where
+      told : (b : Bool) → eqb schema 1 ≡ b → has (cond b (liveOf t 1 (countOf Model)) (liveOf t 2 (countOf Model))) m ≡ isOf schema (labelAt t Model m)
+      told true e = ap (λ (x : ℕ). has (liveOf t x (countOf Model)) m) (sym (eqb-true schema 1 e)) ∙ live-member (countOf Model) m (omega arith) k
+      told false e =
+          let n : schema ≡ 1 → ⊥ = eqb-false schema 1 e in
+          let two : 2 ≡ schema = omega arith in
+          ap (λ (x : ℕ). has (liveOf t x (countOf Model)) m) two ∙ live-member (countOf Model) m (omega arith) k
+
+-- ---- the tests of a group and of a header
+
+pub group-by-sets : (t : List ℕ) (s : ℕ) → freeAt t SchemaInstance s ≡ false → (isLabel (labelAt t SchemaInstance s) && within (setAt t s) (ofSchema (liveIn t) (schemaIn (labelAt t SchemaInstance s)))) ≡ soundGroup t s
+unfolding soundGroup
+group-by-sets t s live = rw live (told (isLabel (labelAt t SchemaInstance s)) refl)
+  where
+    told : (b : Bool) → isLabel (labelAt t SchemaInstance s) ≡ b → (b && within (setAt t s) (ofSchema (liveIn t) (schemaIn (labelAt t SchemaInstance s)))) ≡ (b && allB bits (λ m. not (has (setAt t s) m) || mayJoin t s m))
+    told false e = refl
+    told true e =
+        let w : Label (labelAt t SchemaInstance s) = label-test (labelAt t SchemaInstance s) .holds e in
+        all-same bits _ _ (λ m l. ap (λ (b : Bool). not (has (setAt t s) m) || b) (live-of-schema t (schemaIn (labelAt t SchemaInstance s)) (w .schema-from) (w .schema-to) m l))
+
+pub header-by-sets : (t : List ℕ) (h : ℕ) → headerFits (liveIn t) h ≡ soundHeader t h
+header-by-sets t h = told (isHeader h) refl (isType (typeIn h)) refl
+  where
+    told : (a : Bool) → isHeader h ≡ a → (b : Bool) → isType (typeIn h) ≡ b → (a && b && has (ofSchema (liveIn t) (schemaOf (typeIn h))) (modelIn h)) ≡ (a && b && isLive t Model (modelIn h) && eqb (schemaIn (labelAt t Model (modelIn h))) (schemaOf (typeIn h)))
+    told false p b q = refl
+    told true p false q = refl
+    told true p true q = live-of-schema t (schemaOf (typeIn h)) (type-schema (typeIn h) q .0) (type-schema (typeIn h) q .1) (modelIn h) (header-test h .holds p .model)

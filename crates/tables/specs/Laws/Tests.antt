@@ -1,0 +1,43 @@
+-- More on tests that decide a statement: a choice between two of them, and that two tests of one statement are the same.
+use mathlib.Core.Path.{_≡_, refl, sym}
+use mathlib.Core.Bool.{Bool, true, false, cond, not, _&&_, _||_, true≢false, false≢true}
+use Prim.Native.Nat.{ℕ, zero, suc, _<_}
+use native.Mathlib.Omega.{arith}
+use Rattle.words.specs.Search.{allB}
+use Rattle.words.specs.Laws.Decides.{Decides}
+
+pub itself : (b : Bool) → Decides b (b ≡ true)
+itself b = record { holds = λ h. h; passes = λ h. h }
+
+pub never : {P : Type 0} → (P → ⊥) → Decides false P
+never n = record { holds = λ h. absurd (false≢true h); passes = λ w. absurd (n w) }
+
+module _ {P Q : Type 0} where
+  pub chosen : (f a b : Bool) → Decides a P → Decides b Q → Decides (cond f a b) ((f ≡ true → P) × (f ≡ false → Q))
+  chosen true a b p q = record { holds = λ h. (λ e. p .holds h, λ e. absurd (true≢false e)); passes = λ w. p .passes (w .0 refl) }
+  chosen false a b p q = record { holds = λ h. (λ e. absurd (false≢true e), λ e. q .holds h); passes = λ w. q .passes (w .1 refl) }
+
+  pub implied : (a b : Bool) → Decides a P → Decides b Q → Decides (not a || b) (P → Q)
+  implied true b p q = record { holds = λ h w. q .holds h; passes = λ w. q .passes (w (p .holds refl)) }
+  implied false b p q = record { holds = λ h w. absurd (false≢true (p .passes w)); passes = λ w. refl }
+
+pub same-test : {P : Type 0} (a b : Bool) → Decides a P → Decides b P → a ≡ b
+same-test true b p q = sym (q .passes (p .holds refl))
+same-test false true p q = p .passes (q .holds refl)
+same-test false false p q = refl
+
+pub all-same : (n : ℕ) (f g : ℕ → Bool) → ((i : ℕ) → i < n → f i ≡ g i) → allB n f ≡ allB n g
+unfolding allB
+all-same zero f g h = refl
+all-same (suc n) f g h = rw (all-same n f g (λ i l. h i (omega arith)), h n (omega arith))
+
+pub all-both : (n : ℕ) (f g : ℕ → Bool) → (allB n f && allB n g) ≡ allB n (λ i. f i && g i)
+unfolding allB
+all-both zero f g = refl
+all-both (suc n) f g = rw (← all-both n f g) (told (allB n f) (f n) (allB n g) (g n))
+  where
+    told : (a b c d : Bool) → (a && b && (c && d)) ≡ (a && c && (b && d))
+    told true true c d = refl
+    told true false true d = refl
+    told true false false d = refl
+    told false b c d = refl

@@ -1,0 +1,10 @@
+pub mod View
+pub mod Sound
+pub mod References
+pub mod Changes
+pub mod Names
+pub mod Live
+pub mod Values
+pub mod Going
+pub mod Pointers
+pub mod Laws

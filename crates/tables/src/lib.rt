@@ -1,0 +1,10 @@
+// The tables of a chip: what their words say, whether they are sound, and what each change writes. Words and types are
+// asked through the crates below, by their contracts.
+pub mod changes;
+pub mod going;
+mod live;
+mod names;
+pub mod references;
+pub mod sound;
+mod values;
+pub mod view;

@@ -1,0 +1,127 @@
+// Whether tables are sound, clause by clause as the page has it.
+ghost use mathlib.Core.Path.{_≡_};
+ghost use Prim.Native.Nat.{_≤_, _<_};
+ghost use lib.ListN.{length};
+ghost use Rattle.words.specs.declared.layout.Kind.the-variants.{SchemaInstance, Instance};
+ghost use Rattle.words.specs.Layout.{words, countOf};
+ghost use Rattle.words.specs.Search.{allB};
+ghost use Rattle.tables.specs.Live.{liveIn};
+ghost use Rattle.tables.specs.Sound.{soundGroup, soundInstance, soundTable, soundTables};
+use super::live::Live;
+use super::live::header_fits;
+use super::live::is_within;
+use super::live::live_in;
+use super::live::of_schema;
+use super::names::all_distinct;
+use super::values::flags_fit;
+use super::values::no_values;
+use super::values::values_fit;
+use super::view::label_at;
+use super::view::set_at;
+use words::copies::agree;
+use words::copies::is_long;
+use words::fields::is_free;
+use words::fields::is_label;
+use words::fields::schema_in;
+use words::layout::Kind;
+use words::layout::count;
+use words::layout::place;
+use words::search::all_formed;
+use words::sets::is_empty;
+
+// "a set names only live models of the same schema"; "Free: both 0."
+fn sound_group(t: &[u64], live: Live, s: u32) -> bool
+    requires { ⌜ live ≡ liveIn (now t) ⌝ }
+    ensures { λ r. ⌜ r ≡ soundGroup (now (t .entry)) s ⌝ }
+{
+    let label = label_at(t, Kind::SchemaInstance, s);
+    let set = set_at(t, s);
+    if is_free(label) {
+        return is_empty(set);
+    }
+    is_label(label) & is_within(set, of_schema(live, schema_in(label)))
+}
+
+fn sound_groups(t: &[u64], live: Live) -> bool
+    requires { ⌜ live ≡ liveIn (now t) ⌝ }
+    ensures { λ r. ⌜ r ≡ allB (countOf SchemaInstance) (soundGroup (now (t .entry))) ⌝ }
+{
+    let n = count(Kind::SchemaInstance);
+    let mut s = 0;
+    while s < n {
+        if !sound_group(t, live, s) {
+            return false;
+        }
+        s += 1;
+    }
+    true
+}
+
+// The table is long enough, so the words are read where they stand.
+fn sound_instance(t: &[u64], live: Live, i: u32) -> bool
+    requires { ⌜ (live ≡ liveIn (now t)) × (words ≤ length (now t)) × (i < countOf Instance) ⌝ }
+    ensures { λ r. ⌜ r ≡ soundInstance (now (t .entry)) i ⌝ }
+{
+    let at = place(Kind::Instance, i);
+    let h = t[at];
+    if h == 0 {
+        return no_values(t, at);
+    }
+    if !header_fits(live, h) {
+        return false;
+    }
+    if !flags_fit(h) {
+        return false;
+    }
+    values_fit(t, at, h)
+}
+
+fn sound_instances(t: &[u64], live: Live) -> bool
+    requires { ⌜ (live ≡ liveIn (now t)) × (words ≤ length (now t)) ⌝ }
+    ensures { λ r. ⌜ r ≡ allB (countOf Instance) (soundInstance (now (t .entry))) ⌝ }
+{
+    let n = count(Kind::Instance);
+    let mut i = 0;
+    while i < n {
+        if !sound_instance(t, live, i) {
+            return false;
+        }
+        i += 1;
+    }
+    true
+}
+
+pub fn sound_table(t: &[u64]) -> bool
+    ensures { λ r. ⌜ r ≡ soundTable (now (t .entry)) ⌝ }
+{
+    if !is_long(t) {
+        return false;
+    }
+    if !all_formed(t, Kind::Model) {
+        return false;
+    }
+    if !all_distinct(t, Kind::Model) {
+        return false;
+    }
+    let live = live_in(t);
+    if !sound_groups(t, live) {
+        return false;
+    }
+    if !all_distinct(t, Kind::SchemaInstance) {
+        return false;
+    }
+    sound_instances(t, live)
+}
+
+// "Unless a read-write transaction is open, both tables agree": one of them then tells of both.
+pub fn sound_tables(writing: bool, working: &[u64], kept: &[u64]) -> bool
+    ensures { λ r. ⌜ r ≡ soundTables writing (now (working .entry)) (now (kept .entry)) ⌝ }
+{
+    if writing {
+        return sound_table(working) & sound_table(kept);
+    }
+    if !agree(working, kept) {
+        return false;
+    }
+    sound_table(working)
+}
