@@ -1,9 +1,9 @@
 // The dictionary of types: the table of the page, and what follows from it. A type is its number. Every function
 // answers every number, one that is no type too.
-mod answers;
-mod kinds;
-mod parents;
-mod types;
+pub mod answers;
+pub mod kinds;
+pub mod parents;
+pub mod types;
 
 pub use answers::Attribute;
 pub use answers::Name;

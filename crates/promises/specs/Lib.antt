@@ -5,3 +5,6 @@ pub mod Reached
 pub mod Core
 pub mod Keeps
 pub mod Records
+pub mod Wrong
+pub mod Unique
+pub mod Cases

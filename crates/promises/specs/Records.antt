@@ -58,11 +58,11 @@ fromFresh calls = lines calls freshSession freshTable freshTable
 
 -- ---- on sound states `core` answers the same, and it computes
 
-core-lines : List Call → Session → List ℕ → List ℕ → List Line
+unfoldable pub core-lines : List Call → Session → List ℕ → List ℕ → List Line
 core-lines [] x w k = []
 core-lines (i ∷ calls) x w k = answered (core-lines calls) (core (i .op) (i .a) (i .b) (i .c) x w k)
 
-small : Call → Bool
+unfoldable pub small : Call → Bool
 small i = ltb (i .c) 0x1_0000_0000
 
 same-lines : (calls : List Call) (x : Session) (w k : List ℕ) → allIn small calls ≡ true → sound x w k ≡ true
@@ -77,19 +77,19 @@ same-lines (i ∷ calls) x w k s h =
     (same-lines calls (o .answer .session) (o .working) (o .kept) (and-right (small i) (allIn small calls) s) (soundness-stays (i .op) (i .a) (i .b) (i .c) x w k below h))
     ∙ ap (answered (core-lines calls)) (core-on-sound (i .op) (i .a) (i .b) (i .c) x w k h)
 
-fresh-table : Empty freshTable
+pub fresh-table : Empty freshTable
 unfolding freshTable
 fresh-table = record { long = le-refl words; zeros = λ i l. getD-replicate words i 0 0 l }
 
-computed : (calls : List Call) → allIn small calls ≡ true → fromFresh calls ≡ core-lines calls freshSession freshTable freshTable
+pub computed : (calls : List Call) → allIn small calls ≡ true → fromFresh calls ≡ core-lines calls freshSession freshTable freshTable
 computed calls s = same-lines calls freshSession freshTable freshTable s (fresh-sound freshTable freshTable fresh-table fresh-table)
 
 -- ---- the page's cases
 
 -- "For 1; 3(0); 5; 20(0,1,7); 23(0); 40(0,2); 44(0,0,5); 42(0,0); 8; 42(0,0) it prints, whole"
-pub ten-records :
-    fromFresh
-    (call 1 0 0 0
+abbrev pub tenCalls : List Call
+tenCalls =
+    call 1 0 0 0
     ∷ call 3 0 0 0
     ∷ call 5 0 0 0
     ∷ call 20 0 1 7
@@ -99,8 +99,12 @@ pub ten-records :
     ∷ call 42 0 0 0
     ∷ call 8 0 0 0
     ∷ call 42 0 0 0
-    ∷ [])
-    ≡ line 0 0 ∷ line 0 0 ∷ line 0 0 ∷ line 0 0 ∷ line 0 0 ∷ line 0 0 ∷ line 0 0 ∷ line 0 5 ∷ line 0 0 ∷ line 27 0 ∷ []
+    ∷ []
+
+abbrev pub tenLines : List Line
+tenLines = line 0 0 ∷ line 0 0 ∷ line 0 0 ∷ line 0 0 ∷ line 0 0 ∷ line 0 0 ∷ line 0 0 ∷ line 0 5 ∷ line 0 0 ∷ line 27 0 ∷ []
+
+pub ten-records : fromFresh tenCalls ≡ tenLines
 unfolding freshTable core-lines small core operationOf lookup listed refusalOf firstOf firstFrom allB anyB allIn withWords apply the-table
 ten-records = computed _ refl
 

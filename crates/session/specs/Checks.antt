@@ -1,6 +1,6 @@
 -- "Operations and the order of their checks": for each operation the refusals in the page's order, each with its condition.
 use Prim.Native.Nat.{ℕ}
-use mathlib.Core.Bool.{Bool, true, false, cond, not, _&&_, _||_}
+use mathlib.Core.Bool.{Bool, true, cond, not, _||_}
 use mathlib.Core.List.{List, [], _∷_, _++_}
 use lib.Dec.{eqb, leb}
 use Rattle.words.specs.declared.layout.Kind.{Kind}
@@ -21,7 +21,7 @@ use Rattle.session.specs.declared.operations.Family.the-variants as fami
 use Rattle.session.specs.declared.state.State.{State}
 use Rattle.session.specs.Refusals.{FN-NAVL, SS-OPN, SS-NOPN, TR-EAB, TR-EXS, TR-NEXS, TR-NAVL, TR-NRW, RP-NEXS, RP-OPN, RP-NOPN, MO-NEXS, MO-DUP, MO-NDEQ, MO-NVLD, MX-RO, MX-RW, MX-NDEF, MX-NRW, SD-NDEF, SI-NEXS, SI-DUP, ED-NDEF, ED-NDEQ, ED-NVLD, EI-NEXS, AT-NDEF, VA-NSET, VA-NVLD, VT-NVLD, done}
 use Rattle.session.specs.Operations.{familyOf}
-use Rattle.session.specs.States.{NONE, RO, RW, ABORTED, isOpen, under}
+use Rattle.session.specs.States.{NONE, RO, ABORTED, isOpen, under}
 
 -- a condition and the refusal that it gives
 infix 70 _gives_

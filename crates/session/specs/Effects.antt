@@ -12,7 +12,6 @@ use Rattle.words.specs.Entries.{firstFree}
 use Rattle.words.specs.Copies.{copied}
 use Rattle.dictionary.specs.Subtype.{subtype}
 use Rattle.tables.specs.View.{setAt, isSet, valueAt}
-use Rattle.tables.specs.declared.changes.Change.{Change}
 use Rattle.tables.specs.declared.changes.Change.the-variants.{Made, Dissolved, Joined, Left, Put, Unset, Deleted, Removed}
 use Rattle.tables.specs.Changes.{apply}
 use Rattle.session.specs.declared.operations.Operation.{Operation}

@@ -1,9 +1,9 @@
 -- The session: the parts of its state that operations name, and its log of events.
 use Prim.Native.Nat.{ℕ, _+_}
-use mathlib.Core.Bool.{Bool, cond, not, _&&_, _||_}
+use mathlib.Core.Bool.{Bool, cond, _&&_}
 use mathlib.Core.List.{List, [], _∷_, _++_}
 use lib.Dec.{eqb, ltb}
-use lib.ListN.{getD, set, drop, replicate}
+use lib.ListN.{set, drop, replicate}
 use Rattle.words.specs.Sets.{none}
 use Rattle.session.specs.declared.state.State.{State}
 use Rattle.session.specs.declared.state.Event.{Event}

@@ -1,8 +1,6 @@
 // The log of events. This is the one place that adds an event.
 ghost use mathlib.Core.Path.{_≡_};
-ghost use mathlib.Core.Bool.{_&&_};
-ghost use lib.Dec.{eqb};
-ghost use Rattle.session.specs.States.{isOpen, event, shifted as shiftedBy, added as addedTo, blankLog, noted as notedIn};
+ghost use Rattle.session.specs.States.{shifted as shiftedBy, added as addedTo, blankLog, noted as notedIn};
 use crate::state::Event;
 use crate::state::Log;
 use crate::state::Session;

@@ -1,7 +1,7 @@
 // Which operation a number names, and to which family it belongs.
 ghost use mathlib.Core.Path.{_≡_};
 ghost use Prim.Native.Nat.{_≤_};
-ghost use Rattle.session.specs.Operations.{operationOf, familyOf};
+ghost use Rattle.session.specs.Operations.{operationOf};
 
 pub enum Operation {
     OpenSession,

@@ -3,7 +3,7 @@ use Prim.Native.Nat.{ℕ}
 use mathlib.Core.Bool.{Bool, true, false, not, _&&_}
 use mathlib.Core.List.{List}
 use lib.Dec.{eqb}
-use Rattle.words.specs.declared.layout.Kind.the-variants.{Model, SchemaInstance, Instance}
+use Rattle.words.specs.declared.layout.Kind.the-variants.{SchemaInstance, Instance}
 use Rattle.words.specs.Layout.{countOf}
 use Rattle.words.specs.Search.{anyB}
 use Rattle.words.specs.Sets.{has}

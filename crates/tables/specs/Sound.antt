@@ -9,13 +9,13 @@ use Rattle.words.specs.Layout.{countOf}
 use Rattle.words.specs.Search.{allB}
 use Rattle.words.specs.Sets.{none, bits, has}
 use Rattle.words.specs.Fields.{nameIn, repositoryIn, schemaIn, typeIn, modelIn, values, isLabel, isHeader, isFree, isNamed}
-use Rattle.words.specs.Entries.{wordOf, freeAt, allFormed}
+use Rattle.words.specs.Entries.{freeAt, allFormed}
 use Rattle.words.specs.Copies.{isLong, agree}
 use Rattle.dictionary.specs.declared.answers.Attribute.{Attribute}
 use Rattle.dictionary.specs.declared.answers.Attribute.the-variants.{Lacking, Whole, Reference}
 use Rattle.dictionary.specs.Dictionary.{isType, schemaOf, attributeOf}
 use Rattle.dictionary.specs.Subtype.{subtype}
-use Rattle.tables.specs.View.{isLive, labelAt, setAt, headerAt, typeAt, modelAt, isSet, valueAt}
+use Rattle.tables.specs.View.{isLive, labelAt, setAt, headerAt, typeAt, isSet, valueAt}
 
 -- "names are unique among the models of one repository and among its schema instances"
 abbrev pub sameName : ℕ → ℕ → Bool

@@ -3,7 +3,7 @@ use Prim.Native.Nat.{ℕ, _+_}
 use mathlib.Core.Bool.{Bool, not}
 use mathlib.Core.List.{List}
 use Rattle.words.specs.declared.layout.Kind.{Kind}
-use Rattle.words.specs.declared.layout.Kind.the-variants.{Model, SchemaInstance, Instance}
+use Rattle.words.specs.declared.layout.Kind.the-variants.{SchemaInstance, Instance}
 use Rattle.words.specs.Fields.{typeIn, modelIn, flagged}
 use Rattle.words.specs.Entries.{wordOf, freeAt}
 

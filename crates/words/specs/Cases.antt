@@ -1,6 +1,6 @@
 -- Document 01's cases at the edges, marked P, that are about words.
 use mathlib.Core.Path.{_≡_, refl}
-use Prim.Native.Nat.{ℕ, _-_, _^_}
+use Prim.Native.Nat.{_-_, _^_}
 use Rattle.words.specs.Fields.{labelOf, headerOf, withFlag}
 use Rattle.words.specs.Sets.{bits, none, sizeOf}
 use Rattle.words.specs.Laws.Sets.{size-of-none, size-of-all}

@@ -1,6 +1,5 @@
 // The fields of the words: the label of a model or a schema instance, the header of an instance.
 ghost use mathlib.Core.Path.{_≡_};
-ghost use mathlib.Core.Bool.{_&&_, not};
 ghost use Rattle.words.specs.Fields.{labelOf, nameIn, repositoryIn, schemaIn, isSchema, isLabel, headerOf, typeIn, modelIn, flagsIn, isHeader, flagged, withFlag, withoutFlag, valueIn, isFree, wellFormed, isNamed};
 use crate::layout::Kind;
 use crate::layout::count;

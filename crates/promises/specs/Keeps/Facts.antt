@@ -8,14 +8,15 @@ use Rattle.words.specs.declared.layout.Kind.{Kind}
 use Rattle.words.specs.declared.layout.Kind.the-variants.{Model, SchemaInstance, Instance}
 use Rattle.words.specs.Layout.{words, countOf}
 use Rattle.words.specs.Sets.{none, bits, has}
-use Rattle.words.specs.Fields.{nameIn, repositoryIn, schemaIn, typeIn, modelIn, values, isFree}
+use Rattle.words.specs.Fields.{nameIn, repositoryIn, values, isFree}
 use Rattle.words.specs.Entries.{freeAt, formed}
 use Rattle.words.specs.Laws.Decides.{Decides, both, equal, at-most, every, denied, restated}
-use Rattle.words.specs.Laws.Fields.{Label, label-test, Header, header-test}
+use Rattle.words.specs.Laws.Fields.{Label, label-test}
 use Rattle.words.specs.Laws.Copies.{Agreeing, agree-test}
-use Rattle.dictionary.specs.Dictionary.{isType, schemaOf, attributeOf}
-use Rattle.tables.specs.View.{isLive, labelAt, setAt, headerAt, typeAt, isSet, valueAt}
-use Rattle.tables.specs.Sound.{sameName, distinct, mayJoin, soundGroup, soundValue, soundHeader, soundInstance, soundTable, soundTables}
+use Rattle.dictionary.specs.Dictionary.{attributeOf}
+use Rattle.tables.specs.View.{labelAt, setAt, headerAt, typeAt, isSet, valueAt}
+use Rattle.tables.specs.Sound.{sameName, distinct, mayJoin, soundGroup, soundValue, soundInstance, soundTable, soundTables}
+pub use Rattle.tables.specs.Laws.Sound.{SoundHeader, sound-header-test}
 use Rattle.promises.specs.Keeps.Tests.{itself, choice, whenever, unless}
 
 -- ---- names
@@ -58,19 +59,6 @@ group-test t s =
     (λ h. record { empty = h .0; label = λ f. h .1 f .0; members = λ f. h .1 f .1 })
     (λ h. (h .empty, (λ f. (h .label f, h .members f))))
 
-pub record SoundHeader (t : List ℕ) (h : ℕ) : Type 0 where
-  pub header : Header h
-  pub type : isType (typeIn h) ≡ true
-  pub model : isLive t Model (modelIn h) ≡ true
-  pub schema : schemaIn (labelAt t Model (modelIn h)) ≡ schemaOf (typeIn h)
-
-pub headed-test : (t : List ℕ) (h : ℕ) → Decides (soundHeader t h) (SoundHeader t h)
-headed-test t h =
-    restated
-    (both _ _ (both _ _ (both _ _ (header-test h) (itself (isType (typeIn h)))) (itself (isLive t Model (modelIn h)))) (equal (schemaIn (labelAt t Model (modelIn h))) (schemaOf (typeIn h))))
-    (λ w. record { header = w .0 .0 .0; type = w .0 .0 .1; model = w .0 .1; schema = w .1 })
-    (λ w. (((w .header, w .type), w .model), w .schema))
-
 pub record SoundInstance (t : List ℕ) (i : ℕ) : Type 0 where
   pub empty : freeAt t Instance i ≡ true → (k : ℕ) → k < values → valueAt t i k ≡ 0
   pub headed : freeAt t Instance i ≡ false → SoundHeader t (headerAt t i)
@@ -80,7 +68,7 @@ instance-test : (t : List ℕ) (i : ℕ) → Decides (soundInstance t i) (SoundI
 unfolding soundInstance
 instance-test t i =
     restated
-    (choice _ _ _ (every values _ _ (λ k. equal (valueAt t i k) 0)) (both _ _ (headed-test t (headerAt t i)) (every values _ _ (λ k. itself (soundValue t (attributeOf (typeAt t i) k) (isSet t i k) (valueAt t i k))))))
+    (choice _ _ _ (every values _ _ (λ k. equal (valueAt t i k) 0)) (both _ _ (sound-header-test t (headerAt t i)) (every values _ _ (λ k. itself (soundValue t (attributeOf (typeAt t i) k) (isSet t i k) (valueAt t i k))))))
     (λ h. record { empty = h .0; headed = λ f. h .1 f .0; valued = λ f. h .1 f .1 })
     (λ h. (h .empty, (λ f. (h .headed f, h .valued f))))
 

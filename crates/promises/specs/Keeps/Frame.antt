@@ -1,15 +1,15 @@
 -- What an entry's soundness rests on: its own words, the labels of live models, and which instances live with which types.
-use mathlib.Core.Path.{_≡_, refl, sym, ap, _∙_}
-use mathlib.Core.Bool.{Bool, true, false, _&&_, true≢false}
+use mathlib.Core.Path.{_≡_, refl, ap, _∙_}
+use mathlib.Core.Bool.{Bool, true, false, _&&_}
 use mathlib.Core.Logic.{_⊎_, inl, inr}
 use mathlib.Core.List.{List}
-use Prim.Native.Nat.{ℕ, _+_, _<_}
+use Prim.Native.Nat.{ℕ, _+_}
 use native.Mathlib.Omega.{arith}
-use lib.Dec.{eqb, ltb}
-use borrow.Author.Tests.{eqb-true, eqb-false, ltb-true, not-true}
+use lib.Dec.{eqb}
+use borrow.Author.Tests.{eqb-true, eqb-false, not-true}
 use Rattle.words.specs.declared.layout.Kind.{Kind}
 use Rattle.words.specs.declared.layout.Kind.the-variants.{Model, SchemaInstance, Instance}
-use Rattle.words.specs.Layout.{baseOf, countOf}
+use Rattle.words.specs.Layout.{baseOf}
 use Rattle.words.specs.Sets.{has}
 use Rattle.words.specs.Fields.{modelIn}
 use Rattle.words.specs.Entries.{wordOf, freeAt}
@@ -19,6 +19,7 @@ use Rattle.dictionary.specs.declared.answers.Attribute.{Attribute}
 use Rattle.dictionary.specs.declared.answers.Attribute.the-variants.{Lacking, Whole, Reference}
 use Rattle.dictionary.specs.Dictionary.{attributeOf}
 use Rattle.dictionary.specs.Subtype.{subtype}
+pub use Rattle.tables.specs.Laws.Sound.{live-below}
 use Rattle.tables.specs.View.{isLive, labelAt, setAt, headerAt, typeAt, modelAt, isSet, valueAt}
 use Rattle.tables.specs.Sound.{mayJoin, soundValue}
 use Rattle.promises.specs.Keeps.Facts.{SameName, turned, Distinct, SoundGroup, SoundHeader, SoundInstance}
@@ -51,13 +52,6 @@ group-no-instance = kinds-apart SchemaInstance Instance (λ z. omega arith)
 
 pub instance-no-group : Instance ≡ SchemaInstance → ⊥
 instance-no-group = kinds-apart Instance SchemaInstance (λ z. omega arith)
-
-pub live-below : (t : List ℕ) (kind : Kind) (i : ℕ) → isLive t kind i ≡ true → i < countOf kind
-live-below t kind i h = told (ltb i (countOf kind)) refl
-  where
-    told : (b : Bool) → ltb i (countOf kind) ≡ b → i < countOf kind
-    told true e = ltb-true i (countOf kind) e
-    told false e = absurd (true≢false (sym h ∙ rw e))
 
 pub live-not-free : (t : List ℕ) (kind : Kind) (i : ℕ) → isLive t kind i ≡ true → freeAt t kind i ≡ false
 live-not-free t kind i h = not-true (freeAt t kind i) h

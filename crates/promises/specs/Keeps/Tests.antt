@@ -2,9 +2,7 @@
 use mathlib.Core.Path.{_≡_, refl, sym, _∙_}
 use mathlib.Core.Bool.{Bool, true, false, cond, not, _&&_, _||_, true≢false, false≢true}
 use Rattle.words.specs.Laws.Decides.{Decides}
-
-pub itself : (b : Bool) → Decides b (b ≡ true)
-itself b = record { holds = λ h. h; passes = λ h. h }
+pub use Rattle.tables.specs.Laws.Tests.{itself}
 
 pub choice : {P Q : Type 0} (b x y : Bool) → Decides x P → Decides y Q → Decides (cond b x y) ((b ≡ true → P) × (b ≡ false → Q))
 choice true x y p q = record { holds = λ h. ((λ e. p .holds h), (λ e. absurd (true≢false e))); passes = λ w. p .passes (w .0 refl) }

@@ -1,9 +1,8 @@
 -- The log: sixteen places, one place on, and an event added.
 use mathlib.Core.Path.{_≡_, refl}
-use mathlib.Core.List.{List, [], _∷_, _++_}
-use Prim.Native.Nat.{ℕ, suc, _+_}
+use mathlib.Core.List.{List, [], _∷_}
 use native.Mathlib.Omega.{arith}
-use lib.ListN.{length, getD, drop}
+use lib.ListN.{length, getD}
 use Rattle.session.specs.declared.state.Event.{Event}
 use Rattle.session.specs.States.{places, shifted}
 

@@ -1,6 +1,6 @@
--- More on tests that decide a statement: a choice between two of them, and that two tests of one statement are the same.
+-- More on tests that decide a statement: one that follows from another, and that two tests of one statement are the same.
 use mathlib.Core.Path.{_≡_, refl, sym}
-use mathlib.Core.Bool.{Bool, true, false, cond, not, _&&_, _||_, true≢false, false≢true}
+use mathlib.Core.Bool.{Bool, true, false, not, _&&_, _||_, false≢true}
 use Prim.Native.Nat.{ℕ, zero, suc, _<_}
 use native.Mathlib.Omega.{arith}
 use Rattle.words.specs.Search.{allB}
@@ -9,14 +9,7 @@ use Rattle.words.specs.Laws.Decides.{Decides}
 pub itself : (b : Bool) → Decides b (b ≡ true)
 itself b = record { holds = λ h. h; passes = λ h. h }
 
-pub never : {P : Type 0} → (P → ⊥) → Decides false P
-never n = record { holds = λ h. absurd (false≢true h); passes = λ w. absurd (n w) }
-
 module _ {P Q : Type 0} where
-  pub chosen : (f a b : Bool) → Decides a P → Decides b Q → Decides (cond f a b) ((f ≡ true → P) × (f ≡ false → Q))
-  chosen true a b p q = record { holds = λ h. (λ e. p .holds h, λ e. absurd (true≢false e)); passes = λ w. p .passes (w .0 refl) }
-  chosen false a b p q = record { holds = λ h. (λ e. absurd (false≢true e), λ e. q .holds h); passes = λ w. q .passes (w .1 refl) }
-
   pub implied : (a b : Bool) → Decides a P → Decides b Q → Decides (not a || b) (P → Q)
   implied true b p q = record { holds = λ h w. q .holds h; passes = λ w. q .passes (w (p .holds refl)) }
   implied false b p q = record { holds = λ h w. absurd (false≢true (p .passes w)); passes = λ w. refl }

@@ -6,7 +6,7 @@ use Prim.Native.Nat.{ℕ, zero, suc, _+_, _-_, _*_, _/_, _%_, _^_, _≤_, _<_}
 use native.Mathlib.Nat.{pow-suc, mul-assoc, zero-div, div-one, zero-mul, one-mul, mod-eq-of-lt, div-eq-of-lt, lt-of-lt-of-le, add-zero, add-suc, suc-add}
 use native.Mathlib.Numerals.{add-one, one-add}
 use native.Mathlib.Omega.{arith}
-use lib.Dec.{eqb, ltb, lit<, eqb·suc-zero, eqb·zero-suc, eqb·suc-suc}
+use lib.Dec.{eqb, lit<, eqb·suc-zero, eqb·zero-suc, eqb·suc-suc}
 use lib.Pow.{pow-add, pow-mono, pow-lt, shr-shr}
 use lib.Bits.{bitAnd, bitOr, and-high, or-add-and}
 use lib.Count.{ones, ones-step, ones-ones, ones-le}

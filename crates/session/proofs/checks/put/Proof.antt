@@ -1,6 +1,5 @@
 -- The checks of writing first; where they refuse nothing, those of a reference.
 use mathlib.Core.Path.{sym, refl, ap, _∙_}
-use mathlib.Core.List.{List}
 use Prim.Native.Nat.{ℕ}
 use Rattle.dictionary.specs.declared.answers.Attribute.{Attribute}
 use Rattle.dictionary.specs.Dictionary.{attributeOf}

@@ -1,6 +1,5 @@
 -- The checks one after the other: past those whose condition fails, at the first whose condition holds.
-use mathlib.Core.Path.{sym, ap, _∙_}
-use mathlib.Core.Bool.{not}
+use mathlib.Core.Path.{sym, _∙_}
 use Rattle.session.specs.Laws.Checks.{passed, stopped, no-more}
 use borrow.Author.Needs.{needs}
 use Rattle.session.proofs.checks.reading.Statement.{statement}

@@ -1,5 +1,5 @@
 -- The condition is the definition's, each part by its function's contract.
-use mathlib.Core.Path.{sym, ap, _∙_}
+use mathlib.Core.Path.{sym}
 use Rattle.dictionary.specs.AttributeLaws.{attribute-lacks}
 use borrow.Author.Needs.{needs}
 use Rattle.session.proofs.conditions.not_of_type.Statement.{statement}

@@ -1,5 +1,4 @@
 -- Sixteen events one place on, spelt out place by place.
-use native.Mathlib.Omega.{arith}
 use Rattle.session.specs.Laws.Events.{spelled}
 use borrow.Author.Needs.{needs}
 use Rattle.session.proofs.events.shifted.Statement.{statement}

@@ -8,7 +8,6 @@ use Rattle.dictionary.proofs.Arms.{among, none-among}
 use Rattle.words.specs.Search.{allB}
 use Rattle.session.specs.Operations.{operationOf}
 use Rattle.session.specs.Laws.Operations.{the-list, past-the-list, between}
-use borrow.Author.Needs.{needs}
 use Rattle.session.proofs.operations.operation_of.Statement.{statement}
 use Rattle.session.proofs.operations.operation_of.Tie as tie
 

@@ -11,7 +11,6 @@ use Rattle.dictionary.proofs.Arms.{among, none-among}
 use Rattle.words.specs.Search.{allB}
 use Rattle.session.specs.Operations.{operationOf}
 use Rattle.session.specs.Laws.Operations.{the-list, between}
-use borrow.Author.Needs.{needs}
 use Rattle.session.proofs.operations.transacted.Statement.{statement}
 use Rattle.session.proofs.operations.transacted.Tie as tie
 

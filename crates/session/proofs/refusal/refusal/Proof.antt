@@ -1,5 +1,5 @@
 -- The gate's refusal, or where it gives none the operation's own.
-use mathlib.Core.Path.{sym, refl, ap, _∙_}
+use mathlib.Core.Path.{sym, ap, _∙_}
 use Rattle.session.specs.declared.operations.Family.{Family}
 use Rattle.session.specs.Operations.{familyOf}
 use Rattle.session.specs.Checks.{firstOf, gate, checks, refusalOf}

@@ -1,6 +1,6 @@
 -- A model in neither set passes; one in a set goes by the rest of the definition.
-use mathlib.Core.Path.{sym, ap, ap₂, _∙_}
-use mathlib.Core.Bool.{Bool, _&&_, _||_}
+use mathlib.Core.Path.{sym}
+use mathlib.Core.Bool.{_||_}
 use borrow.Author.Tests.{not-true, not-false}
 use Rattle.session.specs.Laws.Sound.{seen, unseen}
 use borrow.Author.Needs.{needs}

@@ -1,11 +1,11 @@
 -- Every place passed is sound. The measure is the places left.
-use mathlib.Core.Path.{_≡_, refl, sym, ap, _∙_}
-use mathlib.Core.Bool.{true, Bool}
+use mathlib.Core.Path.{_≡_, refl, sym, _∙_}
+use mathlib.Core.Bool.{true}
 use Prim.Native.Nat.{ℕ, _≤_, _-_}
 use native.Mathlib.Omega.{arith}
 use borrow.Author.Needs.{needs}
 use borrow.Author.Tests.{not-true, not-false}
-use lib.ListN.{getD, length}
+use lib.ListN.{getD}
 use Rattle.words.specs.Search.{allB}
 use Rattle.words.specs.Laws.Search.{all-more, all-stop, all-done}
 use Rattle.session.specs.States.{places, blankEvent}

@@ -1,5 +1,5 @@
 -- After i turns the first i words are those of the source and the others stand. The measure is the words left.
-use mathlib.Core.Path.{_≡_, refl, sym, ap, _∙_}
+use mathlib.Core.Path.{_≡_, refl, ap, _∙_}
 use mathlib.Core.List.{List, _++_}
 use Prim.Native.Nat.{ℕ, _≤_, _-_, min}
 use native.Mathlib.Omega.{arith}

@@ -1,7 +1,7 @@
 -- What is left to search from i on has the same lowest free entry as the whole. The measure is the entries left.
 use Rattle.words.specs.Fields.{isFree}
-use mathlib.Core.Path.{_≡_, refl, sym, ap, _∙_}
-use Prim.Native.Nat.{ℕ, _≤_, _-_}
+use mathlib.Core.Path.{_≡_, sym, ap, _∙_}
+use Prim.Native.Nat.{_-_}
 use native.Mathlib.Omega.{arith}
 use borrow.Author.Needs.{needs}
 use Rattle.words.specs.Layout.{countOf}

@@ -1,0 +1,6 @@
+pub mod Runs
+pub mod Remains
+pub mod Live
+pub mod Demand3
+pub mod Proofs
+pub mod Theorems

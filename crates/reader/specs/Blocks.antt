@@ -1,0 +1,100 @@
+-- What a run of bytes does, record by record.
+use Prim.Native.Nat.{ℕ, zero, suc, _+_, _≤_, _<_}
+use mathlib.Core.Bool.{Bool, true, false, cond, _&&_}
+use mathlib.Core.List.{List, [], _∷_, _++_}
+use lib.ListN.{length, take, drop, replicate}
+use Rattle.words.specs.Layout.{words}
+use Rattle.records.specs.declared.decoding.Record.{Record}
+use Rattle.records.specs.declared.decoding.Found.{Found}
+use Rattle.records.specs.declared.decoding.Found.the-variants.{Whole, Bad}
+use Rattle.records.specs.Records.{size, recordOf}
+use Rattle.records.specs.Lines.{lineText, badText, endText}
+use Rattle.session.specs.declared.state.Session.{Session}
+use Rattle.session.specs.States.{closedState, blankLog, session}
+use Rattle.session.specs.Step.{Outcome, core}
+use Rattle.reader.specs.declared.blocks.Run.{Run}
+
+-- a block has 1024 records; the output has 64 bytes for the line of each, and for two lines more
+abbrev pub blockSize : ℕ
+blockSize = 16384
+
+abbrev pub outSize : ℕ
+outSize = 65664
+
+-- where the program stands between two records: how many are done, whether it goes on, and the text that it has for printing
+pub record Here : Type 0 where
+  pub session : Session
+  pub working : List ℕ
+  pub kept : List ℕ
+  pub done : ℕ
+  pub on : Bool
+  pub text : List ℕ
+
+-- the text is what stands in the output before the next position
+abbrev pub here : Run → List ℕ → List ℕ → List ℕ → Here
+here run out working kept =
+    record { session = run .session; working = working; kept = kept; done = run .done; on = run .on; text = take (run .at) out }
+
+-- room for one line more, and a count that does not wrap
+pub record Room (run : Run) (out : List ℕ) : Type 0 where
+  pub fits : run .at + 64 ≤ length out
+  pub counts : run .done + 1 < 0x1_0000_0000_0000_0000
+
+-- one line later
+pub record Moved (start run : Run) : Type 0 where
+  pub short : run .at ≤ start .at + 64
+  pub one : run .done ≤ start .done + 1
+
+-- "For each record one line: its count from 1, operation, refusal, value"
+abbrev pub afterCall : ℕ → Outcome → Here → Here
+afterCall op o x =
+    record {
+      session = o .answer .session;
+      working = o .working;
+      kept = o .kept;
+      done = x .done + 1;
+      on = true;
+      text = x .text ++ lineText (x .done + 1) op (o .answer .refusal) (o .answer .value);
+    }
+
+abbrev pub afterRecord : Record → Here → Here
+afterRecord r x = afterCall (r .op) (core (r .op) (r .a) (r .b) (r .c) (x .session) (x .working) (x .kept)) x
+
+-- the program stops behind a last line
+abbrev pub stopped : List ℕ → Here → Here
+stopped line x = record { session = x .session; working = x .working; kept = x .kept; done = x .done; on = false; text = x .text ++ line }
+
+-- "At a wrong mark or a cut record the line `bad N` with its count, and the program stops"
+abbrev pub afterBad : Here → Here
+afterBad x = stopped (badText (x .done + 1)) x
+
+abbrev pub afterFound : Found → Here → Here
+afterFound (Whole r) x = afterRecord r x
+afterFound Bad x = afterBad x
+
+-- "at a proper end, `end N` with the records done": the input is over, and no record of it was bad
+abbrev pub afterEnd : Bool → Here → Here
+afterEnd over x = cond (x .on && over) (stopped (endText (x .done)) x) x
+
+-- at most k records of the bytes, "each taken from where it begins"
+unfoldable pub afterRecords : ℕ → List ℕ → Here → Here
+afterRecords zero bytes x = x
+afterRecords (suc k) [] x = x
+afterRecords (suc k) (b ∷ bytes) x =
+    let next = afterFound (recordOf (b ∷ bytes)) x in
+    cond (next .on) (afterRecords k (drop size (b ∷ bytes)) next) next
+
+-- all of them: there are no more records than bytes
+abbrev pub afterBytes : List ℕ → Here → Here
+afterBytes bytes x = afterRecords (length bytes) bytes x
+
+-- "The start is fresh": "all words 0, session closed"
+abbrev pub freshRun : Run
+freshRun = record { session = session closedState blankLog; done = 0; at = 0; on = true }
+
+abbrev pub start : Here
+start = here freshRun [] (replicate words 0) (replicate words 0)
+
+-- all that the program prints
+abbrev pub printed : List ℕ → List ℕ
+printed input = afterEnd true (afterBytes input start) .text

@@ -1,0 +1,3 @@
+-- What the proofs cite of the definitions.
+pub mod Blocks
+pub mod Whole

@@ -1,0 +1,4 @@
+-- What callers cite of the definitions.
+pub mod Records
+pub mod Decimal
+pub mod Writing
