@@ -79,6 +79,7 @@ use Rattle.tables.proofs.view.set_at.Reads as tables-view-set-at
 use Rattle.tables.proofs.view.header_at.Reads as tables-view-header-at
 use Rattle.tables.proofs.view.is_set.Reads as tables-view-is-set
 use Rattle.tables.proofs.view.value_at.Reads as tables-view-value-at
+use Rattle.session.proofs.answers.unsound.Reads as session-answers-unsound
 use Rattle.session.proofs.answers.refused.Reads as session-answers-refused
 use Rattle.session.proofs.answers.finished.Reads as session-answers-finished
 use Rattle.session.proofs.call.core.Reads as session-call-core
@@ -136,7 +137,6 @@ use Rattle.session.proofs.gate.family.Reads as session-gate-family
 use Rattle.session.proofs.gate.gate.Reads as session-gate-gate
 use Rattle.session.proofs.operations.operation_of.Reads as session-operations-operation-of
 use Rattle.session.proofs.refusal.refusal.Reads as session-refusal-refusal
-use Rattle.session.proofs.sound.sound_session.Reads as session-sound-sound-session
 use Rattle.session.proofs.state.is_open.Reads as session-state-is-open
 use Rattle.session.proofs.state.under.Reads as session-state-under
 use Rattle.session.proofs.state.with_recording.Reads as session-state-with-recording
@@ -384,6 +384,9 @@ tables-view-value-at-one κs a x y s s′ p q = p ∙ sym q
 
 -- ---- session
 
+pub session-answers-unsound-one : (κs : _) (a : _) (x y : _) (s s′ : _) → session-answers-unsound.Post κs a x s → session-answers-unsound.Post κs a y s′ → x ≡ y
+session-answers-unsound-one κs a x y s s′ p q = p ∙ sym q
+
 pub session-answers-refused-one : (κs : _) (a : _) (x y : _) (s s′ : _) → session-answers-refused.Post κs a x s → session-answers-refused.Post κs a y s′ → x ≡ y
 session-answers-refused-one κs a x y s s′ p q = p ∙ sym q
 
@@ -554,9 +557,6 @@ session-operations-operation-of-one κs a x y s s′ p q = p ∙ sym q
 
 pub session-refusal-refusal-one : (κs : _) (a : _) (x y : _) (s s′ : _) → session-refusal-refusal.Post κs a x s → session-refusal-refusal.Post κs a y s′ → x ≡ y
 session-refusal-refusal-one κs a x y s s′ p q = p ∙ sym q
-
-pub session-sound-sound-session-one : (κs : _) (a : _) (x y : _) (s s′ : _) → session-sound-sound-session.Post κs a x s → session-sound-sound-session.Post κs a y s′ → x ≡ y
-session-sound-sound-session-one κs a x y s s′ p q = p ∙ sym q
 
 pub session-state-is-open-one : (κs : _) (a : _) (x y : _) (s s′ : _) → session-state-is-open.Post κs a x s → session-state-is-open.Post κs a y s′ → x ≡ y
 session-state-is-open-one κs a x y s s′ p q = p ∙ sym q

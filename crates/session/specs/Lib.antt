@@ -2,6 +2,7 @@ pub mod Refusals
 pub mod Operations
 pub mod States
 pub mod Sound
+pub mod Access
 pub mod Checks
 pub mod Effects
 pub mod Step

@@ -1,6 +1,7 @@
 // The one place that builds answers.
 ghost use mathlib.Core.Path.{_≡_};
-ghost use Rattle.session.specs.Step.{logAfter, refusedAnswer, finishedAnswer};
+ghost use Rattle.session.specs.Refusals.{SY-ERR};
+ghost use Rattle.session.specs.Step.{answer, logAfter, refusedAnswer, finishedAnswer};
 use crate::events::blank_log;
 use crate::events::noted;
 use crate::refusals;
@@ -9,6 +10,17 @@ use crate::state::Log;
 use crate::state::Session;
 use crate::state::State;
 use crate::state::is_open;
+
+// "SY_ERR adds none and returns the session as given"
+pub fn unsound(x: Session) -> Answer
+    ensures { λ r. ⌜ r ≡ answer SY-ERR 0 x ⌝ }
+{
+    Answer {
+        refusal: refusals::SY_ERR,
+        value: 0,
+        session: x,
+    }
+}
 
 // A refusal: value 0, and at most one event more.
 pub fn refused(op: u32, refusal: u32, x: Session) -> Answer

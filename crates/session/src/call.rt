@@ -6,6 +6,7 @@ ghost use Rattle.session.specs.Sound.{sound as soundState};
 ghost use Rattle.session.specs.Step.{outcome, core as coreOf, step};
 use crate::answers::finished;
 use crate::answers::refused;
+use crate::answers::unsound;
 use crate::effects::Tables;
 use crate::effects::effect_of;
 use crate::operations::operation_of;
@@ -59,7 +60,10 @@ fn is_sound(x: Session, working: &[u64], kept: &[u64]) -> bool
     ensures { λ r. ⌜ r ≡ soundState x (now (working .entry)) (now (kept .entry)) ⌝ }
 {
     let state = x.state;
-    sound_tables(under(state, RW), working, kept) & sound_session(x, working)
+    if !sound_tables(under(state, RW), working, kept) {
+        return false;
+    }
+    sound_session(x, working)
 }
 
 pub fn call(
@@ -74,11 +78,7 @@ pub fn call(
     ensures { λ r. ⌜ outcome r (now (working .exit)) (now (kept .exit)) ≡ step op a b c x (now (working .entry)) (now (kept .entry)) ⌝ }
 {
     if !is_sound(x, working, kept) {
-        return Answer {
-            refusal: refusals::SY_ERR,
-            value: 0,
-            session: x,
-        };
+        return unsound(x);
     }
     core(op, a, b, c, x, working, kept)
 }

@@ -9,5 +9,5 @@ pub mod gate;
 pub mod operations;
 pub mod refusal;
 pub mod refusals;
-pub mod sound;
+mod sound;
 pub mod state;

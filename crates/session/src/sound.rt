@@ -1,6 +1,12 @@
 // Whether a session is sound, beside the working table that its access sets speak of.
 ghost use mathlib.Core.Path.{_≡_};
-ghost use Rattle.session.specs.Sound.{soundEvent, isBlank, soundPlace, soundPlaces, soundLog, maySee, soundAccess, soundTransaction, soundOpen, soundSession};
+ghost use mathlib.Core.Bool.{cond};
+ghost use Prim.Native.Nat.{_≤_};
+ghost use lib.ListN.{length};
+ghost use Rattle.words.specs.Layout.{words};
+ghost use Rattle.words.specs.Sets.{insert};
+ghost use Rattle.session.specs.Sound.{soundEvent, isBlank, soundPlace, soundPlaces, soundLog, soundAccess, soundTransaction, soundOpen, soundSession};
+ghost use Rattle.session.specs.Access.{isSeen, inOpen};
 use crate::events::PLACES;
 use crate::refusals;
 use crate::state::ABORTED;
@@ -13,13 +19,12 @@ use crate::state::Session;
 use crate::state::State;
 use crate::state::is_open;
 use crate::state::under;
-use tables::view::is_live;
-use tables::view::label_at;
+use words::fields::is_free;
 use words::fields::repository_in;
-use words::layout::Kind;
 use words::sets::BITS;
 use words::sets::EMPTY;
 use words::sets::has;
+use words::sets::with;
 
 fn sound_event(e: Event) -> bool
     ensures { λ r. ⌜ r ≡ soundEvent e ⌝ }
@@ -37,25 +42,22 @@ fn is_blank(e: Event) -> bool
 fn sound_place(count: u32, i: u32, e: Event) -> bool
     ensures { λ r. ⌜ r ≡ soundPlace count i e ⌝ }
 {
-    if i < count {
-        sound_event(e)
-    } else {
-        is_blank(e)
-    }
+    let used = i < count;
+    (used & sound_event(e)) | (!used & is_blank(e))
 }
 
+// No place ends the loop: sixteen tests without a branch are quicker.
 fn sound_places(count: u32, events: [Event; 16]) -> bool
     ensures { λ r. ⌜ r ≡ soundPlaces count events ⌝ }
 {
+    let mut ok = true;
     let mut i = 0;
     while i < PLACES {
         let e = events[i as usize];
-        if !sound_place(count, i, e) {
-            return false;
-        }
+        ok = ok & sound_place(count, i, e);
         i += 1;
     }
-    true
+    ok
 }
 
 fn sound_log(l: Log) -> bool
@@ -66,31 +68,45 @@ fn sound_log(l: Log) -> bool
     (count <= PLACES) & sound_places(count, events)
 }
 
-// Model m is in at most one access set, and in none unless it is live and its repository open.
-fn may_see(s: State, w: &[u64], m: u32) -> bool
-    ensures { λ r. ⌜ r ≡ maySee (now (w .entry)) s m ⌝ }
+// The label of a live model whose repository is open.
+fn is_seen(repositories: u64, label: u64) -> bool
+    ensures { λ r. ⌜ r ≡ isSeen repositories label ⌝ }
 {
-    let reads = has(s.ro, m);
-    let writes = has(s.rw, m);
-    if !(reads | writes) {
-        return true;
-    }
-    !(reads & writes)
-        & (is_live(w, Kind::Model, m)
-            & has(s.repositories, repository_in(label_at(w, Kind::Model, m))))
+    !is_free(label) & has(repositories, repository_in(label))
 }
 
-fn sound_access(s: State, w: &[u64]) -> bool
-    ensures { λ r. ⌜ r ≡ soundAccess (now (w .entry)) s ⌝ }
+fn with_seen(set: u64, m: u32, repositories: u64, label: u64) -> u64
+    ensures { λ r. ⌜ r ≡ cond (isSeen repositories label) (insert set m) set ⌝ }
 {
+    if is_seen(repositories, label) {
+        with(set, m)
+    } else {
+        set
+    }
+}
+
+// The live models of open repositories, built once, so that an access set is tested by one word. The table is long
+// enough, so the words are read where they stand.
+fn in_open(w: &[u64], repositories: u64) -> u64
+    requires { ⌜ words ≤ length (now w) ⌝ }
+    ensures { λ r. ⌜ r ≡ inOpen (now (w .entry)) repositories ⌝ }
+{
+    let mut set = EMPTY;
     let mut m = 0;
     while m < BITS {
-        if !may_see(s, w, m) {
-            return false;
-        }
+        set = with_seen(set, m, repositories, w[m as usize]);
         m += 1;
     }
-    true
+    set
+}
+
+// The access sets share no model, and each lies within the models that may be seen.
+fn sound_access(s: State, w: &[u64]) -> bool
+    requires { ⌜ words ≤ length (now w) ⌝ }
+    ensures { λ r. ⌜ r ≡ soundAccess (now (w .entry)) s ⌝ }
+{
+    let open = in_open(w, s.repositories);
+    (s.ro & s.rw == EMPTY) & (s.ro & open == s.ro) & (s.rw & open == s.rw)
 }
 
 fn sound_transaction(s: State) -> bool
@@ -117,7 +133,9 @@ fn sound_open(x: Session) -> bool
         & (log.count == 0)
 }
 
+// The table is known to be long enough: the tables are tested before the session.
 pub fn sound_session(x: Session, w: &[u64]) -> bool
+    requires { ⌜ words ≤ length (now w) ⌝ }
     ensures { λ r. ⌜ r ≡ soundSession (now (w .entry)) x ⌝ }
 {
     let s = x.state;

@@ -1,5 +1,5 @@
 -- Sets of models in one word: "the set of its models, bit m for model m". The same bits serve an instance's flags.
-use Prim.Native.Nat.{ℕ, _+_, _-_, _*_, _/_, _%_, _^_}
+use Prim.Native.Nat.{ℕ, zero, suc, _+_, _-_, _*_, _/_, _%_, _^_}
 use mathlib.Core.Bool.{Bool, cond}
 use mathlib.Core.List.{List}
 use lib.Dec.{eqb, ltb}
@@ -28,6 +28,11 @@ insert s m = cond (ltb m bits) (s + (1 - bitOf s m) * 2 ^ m) s
 -- the set with m taken out
 abbrev pub remove : ℕ → ℕ → ℕ
 remove s m = s - bitOf s m * 2 ^ m
+
+-- the numbers below n that pass a test
+unfoldable pub setOf : ℕ → (ℕ → Bool) → ℕ
+setOf zero f = none
+setOf (suc n) f = cond (f n) (insert (setOf n f) n) (setOf n f)
 
 -- the members, the lowest first, and how many there are
 unfoldable pub members : ℕ → List ℕ

@@ -1,27 +1,82 @@
--- The tests of a session: how the code's order of tests gives the definition's.
-use mathlib.Core.Path.{_≡_, refl}
-use mathlib.Core.Bool.{Bool, true, false, not, _&&_, _||_, false≢true, true≢false}
-use Prim.Native.Nat.{ℕ}
+-- The tests of a session: how the code's tests give the definition's.
+use mathlib.Core.Path.{_≡_, refl, sym, ap, _∙_}
+use mathlib.Core.Bool.{Bool, true, false, cond, not, _&&_, _||_, false≢true}
+use mathlib.Core.List.{List}
+use Prim.Native.Nat.{ℕ, _+_, _^_, _≤_, _<_}
+use native.Mathlib.Omega.{arith}
+use lib.Dec.{eqb}
+use lib.Bits.{bitAnd, and-le-l}
 use lib.ListN.{length, getD}
 use borrow.Author.Tests.{eq-eqb}
+use Rattle.words.specs.declared.layout.Kind.the-variants.{Model}
+use Rattle.words.specs.Layout.{words, placeOf}
 use Rattle.words.specs.Search.{allB}
-use mathlib.Core.List.{List}
+use Rattle.words.specs.Sets.{bits, none, has}
+use Rattle.words.specs.Laws.Bools.{and-left}
+use Rattle.words.specs.Laws.Decides.{equal, at-most, denied, every, restated}
+use Rattle.words.specs.Laws.Sets.{has-none, set-member, none-is-empty}
+use Rattle.words.specs.Laws.Entries.{entry-test}
+use Rattle.tables.specs.View.{labelAt}
+use Rattle.tables.specs.Sound.{soundTable, soundTables}
+use Rattle.tables.specs.Laws.Tests.{itself, same-test, all-same, all-both}
+use Rattle.tables.specs.Laws.Live.{has-and, within-by-and}
 use Rattle.session.specs.declared.state.Event.{Event}
+use Rattle.session.specs.declared.state.State.{State}
 use Rattle.session.specs.States.{places, blankEvent}
-use Rattle.session.specs.Sound.{soundPlace, soundPlaces}
+use Rattle.session.specs.Sound.{soundPlace, soundPlaces, maySee, soundAccess}
+use Rattle.session.specs.Access.{seenAt, inOpen}
 
--- a model with no access passes; one with access goes by the rest
-pub unseen : (reads writes x : Bool) → (reads || writes) ≡ false → (not (reads && writes) && (not (reads || writes) || x)) ≡ true
-unseen true writes x e = absurd (true≢false e)
-unseen false true x e = absurd (true≢false e)
-unseen false false x e = refl
+-- "Both tables have at least 736 words."
+pub sound-long : (writing : Bool) (working kept : List ℕ) → soundTables writing working kept ≡ true → words ≤ length working
+unfolding soundTables soundTable
+sound-long writing working kept h = at-most words (length working) .holds (and-left _ _ (and-left _ _ (and-left _ _ (and-left _ _ (and-left _ _ (and-left _ _ (and-left _ _ h)))))))
 
-pub seen : (reads writes x : Bool) → (reads || writes) ≡ true → (not (reads && writes) && (not (reads || writes) || x)) ≡ (not (reads && writes) && x)
-seen true writes x e = refl
-seen false true x e = refl
-seen false false x e = absurd (false≢true e)
+-- ---- the log
+
+-- a choice without a branch
+pub chosen : (b x y : Bool) → ((b && x) || (not b && y)) ≡ cond b x y
+chosen true true y = refl
+chosen true false y = refl
+chosen false x y = refl
 
 -- sixteen places, each by itself
 pub by-places : (count : ℕ) (events : List Event) → length events ≡ places → soundPlaces count events ≡ allB places (λ i. soundPlace count i (getD events i blankEvent))
 unfolding soundPlaces
 by-places count events n = rw (eq-eqb (length events) places n)
+
+-- ---- the access sets
+
+-- model m's word is word m
+pub model-label : (t : List ℕ) (m : ℕ) → m < bits → labelAt t Model m ≡ getD t m 0
+model-label t m l =
+    let e : placeOf Model m + 0 ≡ m = omega arith in
+    rw (entry-test Model m 0 .passes (l, omega arith)) (ap (λ (at : ℕ). getD t at 0) e)
+
+-- the machine's test that two sets share no member
+apart-by-and : (a b : ℕ) → a < 2 ^ bits → eqb (bitAnd a b) none ≡ allB bits (λ m. not (has a m && has b m))
+apart-by-and a b h =
+    same-test _ _
+    (restated (equal (bitAnd a b) none) shared (λ w. none-is-empty (bitAnd a b) (omega (arith, and-le-l a b)) (λ m l. alone m (has a m && has b m) refl (w m l))))
+    (every bits _ (λ m. (has a m && has b m) ≡ true → ⊥) (λ m. denied _ (itself (has a m && has b m))))
+  where
+    shared : bitAnd a b ≡ none → (m : ℕ) → m < bits → (has a m && has b m) ≡ true → ⊥
+    shared e m l p = false≢true (sym (has-none m) ∙ ap (λ (x : ℕ). has x m) (sym e) ∙ has-and a b m ∙ p)
+
+    alone : (m : ℕ) (c : Bool) → (has a m && has b m) ≡ c → ((has a m && has b m) ≡ true → ⊥) → has (bitAnd a b) m ≡ false
+    alone m true p w = absurd (w p)
+    alone m false p w = has-and a b m ∙ p
+
+-- of one model: in at most one set, and if it is in one, to be seen
+one-model : (reads writes seen : Bool) → (not (reads && writes) && (not reads || seen) && (not writes || seen)) ≡ (not (reads && writes) && (not (reads || writes) || seen))
+one-model true true seen = refl
+one-model true false true = refl
+one-model true false false = refl
+one-model false true seen = refl
+one-model false false seen = refl
+
+pub access-by-sets : (working : List ℕ) (s : State) → s .ro < 2 ^ bits → s .rw < 2 ^ bits
+    → (eqb (bitAnd (s .ro) (s .rw)) none && eqb (bitAnd (s .ro) (inOpen working (s .repositories))) (s .ro) && eqb (bitAnd (s .rw) (inOpen working (s .repositories))) (s .rw)) ≡ soundAccess working s
+unfolding soundAccess
+access-by-sets working s hr hw =
+    rw (apart-by-and (s .ro) (s .rw) hr, within-by-and (s .ro) (inOpen working (s .repositories)) hr, within-by-and (s .rw) (inOpen working (s .repositories)) hw, all-both bits (λ m. not (has (s .ro) m && has (s .rw) m)) (λ m. not (has (s .ro) m) || has (inOpen working (s .repositories)) m), all-both bits (λ m. not (has (s .ro) m && has (s .rw) m) && (not (has (s .ro) m) || has (inOpen working (s .repositories)) m)) (λ m. not (has (s .rw) m) || has (inOpen working (s .repositories)) m))
+    (all-same bits _ (maySee working s) (λ m l. rw (set-member (seenAt working (s .repositories)) bits m (omega arith) l) (one-model (has (s .ro) m) (has (s .rw) m) (seenAt working (s .repositories) m))))

@@ -40,7 +40,7 @@ test-least (suc zero) (suc zero) hx hy = refl
 test-least (suc zero) (suc (suc y)) hx hy = absurd (omega arith)
 test-least (suc (suc x)) y hx hy = absurd (omega arith)
 
-has-and : (s o m : ℕ) → has (bitAnd s o) m ≡ (has s m && has o m)
+pub has-and : (s o m : ℕ) → has (bitAnd s o) m ≡ (has s m && has o m)
 has-and s o m = ap (λ (x : ℕ). eqb x 1) (and-bits s o m) ∙ test-least (bitOf s m) (bitOf o m) (omega arith) (omega arith)
 
 -- the machine's test of it

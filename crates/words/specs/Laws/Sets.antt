@@ -1,9 +1,10 @@
 -- Sets in one word: what is in a set after a change, its members, and that a set is known by its members.
 use mathlib.Core.Path.{_≡_, refl, sym, ap, _∙_}
 use mathlib.Core.Bool.{Bool, true, false, cond, not, _&&_, _||_}
+use mathlib.Core.Logic.{⊎-elim}
 use mathlib.Core.List.{List, _∷_, List·Memᴰ}
 use Prim.Native.Nat.{ℕ, zero, suc, _+_, _-_, _*_, _/_, _%_, _^_, _≤_, _<_}
-use native.Mathlib.Nat.{pow-suc, mul-assoc, zero-div, div-one, zero-mul, one-mul, mod-eq-of-lt, div-eq-of-lt, lt-of-lt-of-le, add-zero, add-suc, suc-add}
+use native.Mathlib.Nat.{pow-suc, mul-assoc, zero-div, div-one, zero-mul, one-mul, mod-eq-of-lt, div-eq-of-lt, lt-of-lt-of-le, add-zero, add-suc, suc-add, eq-or-lt-of-le, le-of-suc-le-suc}
 use native.Mathlib.Numerals.{add-one, one-add}
 use native.Mathlib.Omega.{arith}
 use lib.Dec.{eqb, lit<, eqb·suc-zero, eqb·zero-suc, eqb·suc-suc}
@@ -11,9 +12,9 @@ use lib.Pow.{pow-add, pow-mono, pow-lt, shr-shr}
 use lib.Bits.{bitAnd, bitOr, and-high, or-add-and}
 use lib.Count.{ones, ones-step, ones-ones, ones-le}
 use lib.ListN.{length}
-use borrow.Author.Tests.{eqb-true, eqb-false, lt-ltb}
+use borrow.Author.Tests.{eq-eqb, ne-eqb, eqb-true, eqb-false, lt-ltb}
 use Rattle.words.specs.Search.{keptFrom}
-use Rattle.words.specs.Sets.{bits, none, bitOf, has, insert, remove, members, sizeOf}
+use Rattle.words.specs.Sets.{bits, none, bitOf, has, insert, remove, setOf, members, sizeOf}
 use Rattle.words.specs.Laws.Search.{kept-passes, passes-kept}
 
 -- ---- the bits of a number, from the lowest up
@@ -82,6 +83,30 @@ pub remove-past : (s m : ℕ) → s < 2 ^ bits → bits ≤ m → remove s m ≡
 remove-past s m h l =
     let gone : s / 2 ^ m ≡ 0 = div-eq-of-lt (lt-of-lt-of-le h (pow-mono l)) in
     rw (gone) (omega (arith, zero-mul (2 ^ m)))
+
+-- ---- the numbers that pass a test
+
+has-own : (b : Bool) (s n : ℕ) → n < bits → has s n ≡ false → has (cond b (insert s n) s) n ≡ b
+has-own true s n l h = has-insert s n n l ∙ rw (eq-eqb n n refl)
+has-own false s n l h = h
+
+has-other : (b : Bool) (s n m : ℕ) → n < bits → (m ≡ n → ⊥) → has (cond b (insert s n) s) m ≡ has s m
+has-other true s n m l apart = has-insert s n m l ∙ rw (ne-eqb m n apart)
+has-other false s n m l apart = refl
+
+module _ (f : ℕ → Bool) where
+  set-later : (n m : ℕ) → n ≤ bits → n ≤ m → has (setOf n f) m ≡ false
+  unfolding setOf
+  set-later zero m h l = has-none m
+  set-later (suc n) m h l = has-other (f n) (setOf n f) n m (omega arith) (λ e. omega arith) ∙ set-later n m (omega arith) (omega arith)
+
+  pub set-member : (n m : ℕ) → n ≤ bits → m < n → has (setOf n f) m ≡ f m
+  unfolding setOf
+  set-member zero m h l = absurd (omega arith)
+  set-member (suc n) m h l =
+      ⊎-elim (λ e. rw e (has-own (f n) (setOf n f) n (omega arith) (set-later n n (omega arith) (omega arith))))
+      (λ k. has-other (f n) (setOf n f) n m (omega arith) (λ e. omega arith) ∙ set-member n m (omega arith) k)
+      (eq-or-lt-of-le (le-of-suc-le-suc l))
 
 -- ---- a set is known by its members
 

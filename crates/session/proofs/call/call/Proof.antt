@@ -9,6 +9,9 @@ use Rattle.session.proofs.call.call.Tie as tie
 is-sound-requires : tie.Need-is-sound-requires
 is-sound-requires c κs = search needs
 
+unsound-requires : tie.Need-unsound-requires
+unsound-requires c κs = search needs
+
 same-length : tie.Need-same-length
 same-length c = search needs
 
@@ -17,7 +20,7 @@ same-length-2 c = search needs
 
 returns : tie.Need-returns
 unfolding step
-returns c = rw (sym (c .before .is-sound .ensures) ∙ not-true (c .before .is-sound .result) (c .if1 .taken))
+returns c = rw (sym (c .before .before .is-sound .ensures) ∙ not-true (c .before .before .is-sound .result) (c .before .if1 .taken), c .unsound .ensures)
 
 core-requires : tie.Need-core-requires
 core-requires c κs = search needs
@@ -37,6 +40,7 @@ call-spec =
     tie.close
     (tie.spec
     is-sound-requires
+    unsound-requires
     same-length
     same-length-2
     returns

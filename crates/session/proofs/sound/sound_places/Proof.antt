@@ -1,13 +1,11 @@
--- Every place passed is sound. The measure is the places left.
-use mathlib.Core.Path.{_≡_, refl, sym, _∙_}
-use mathlib.Core.Bool.{true}
+-- The test so far is that of every place passed. The measure is the places left.
+use mathlib.Core.Path.{_≡_, refl, sym}
 use Prim.Native.Nat.{ℕ, _≤_, _-_}
 use native.Mathlib.Omega.{arith}
+use native.Mathlib.Numerals.{add-one}
 use borrow.Author.Needs.{needs}
-use borrow.Author.Tests.{not-true, not-false}
 use lib.ListN.{getD}
 use Rattle.words.specs.Search.{allB}
-use Rattle.words.specs.Laws.Search.{all-more, all-stop, all-done}
 use Rattle.session.specs.States.{places, blankEvent}
 use Rattle.session.specs.Sound.{soundPlace}
 use Rattle.session.specs.Laws.Sound.{by-places}
@@ -15,10 +13,10 @@ use Rattle.session.proofs.sound.sound_places.Statement.{statement}
 use Rattle.session.proofs.sound.sound_places.Tie as tie
 
 abbrev Inv-loop : tie.InvT-loop
-Inv-loop count events i₀ i = (i ≤ places) × (allB i (λ (j : ℕ). soundPlace count j (getD events j blankEvent)) ≡ true)
+Inv-loop count events ok₀ i₀ ok i = (i ≤ places) × (ok ≡ allB i (λ (j : ℕ). soundPlace count j (getD events j blankEvent)))
 
 abbrev μ-loop : tie.MeasureT-loop
-μ-loop count events i₀ i = places - i
+μ-loop count events ok₀ i₀ ok i = places - i
 
 loop-holds : tie.Need-loop-holds Inv-loop μ-loop
 unfolding allB
@@ -36,9 +34,6 @@ array-copy-out-e c = omega arith
 sound-place-requires : tie.Need-sound-place-requires Inv-loop μ-loop
 sound-place-requires c κs = search needs
 
-returns : tie.Need-returns Inv-loop μ-loop
-returns c = sym (by-places (c .before .before .before .before .before .args .count) (c .before .before .before .before .before .args .t2) (search needs) ∙ all-stop places (λ (j : ℕ). soundPlace (c .before .before .before .before .before .args .count) j (getD (c .before .before .before .before .before .args .t2) j blankEvent)) (c .before .before .before .before .loop .i) (c .before .before .before .loop-test .taken) (sym (c .before .sound-place .ensures) ∙ not-true _ (c .if1 .taken)))
-
 add-i : tie.Need-add-i Inv-loop μ-loop
 add-i c = omega arith
 
@@ -46,10 +41,11 @@ loop-less : tie.Need-loop-less Inv-loop μ-loop
 loop-less c = omega arith
 
 loop-again : tie.Need-loop-again Inv-loop μ-loop
-loop-again c = (omega arith, all-more (λ (j : ℕ). soundPlace (c .before .before .before .before .before .args .count) j (getD (c .before .before .before .before .before .args .t2) j blankEvent)) (c .before .before .before .before .loop .i) (c .before .before .before .before .loop .inv .1) (sym (c .before .sound-place .ensures) ∙ not-false _ (c .if1 .left)))
+unfolding allB
+loop-again c = (omega arith, rw (add-one, c .sound-place .ensures, c .before .before .before .loop .inv .1))
 
-returns-2 : tie.Need-returns-2 Inv-loop μ-loop
-returns-2 c = sym (by-places (c .before .before .args .count) (c .before .before .args .t2) (search needs) ∙ all-done (λ (j : ℕ). soundPlace (c .before .before .args .count) j (getD (c .before .before .args .t2) j blankEvent)) places (c .before .loop .i) (c .before .loop .inv .0) (c .loop-test .left) (c .before .loop .inv .1))
+returns : tie.Need-returns Inv-loop μ-loop
+returns c = let e : c .before .loop .i ≡ places = omega arith in rw (c .before .loop .inv .1, e) (sym (by-places (c .before .before .args .count) (c .before .before .args .t2) (search needs)))
 
 pub sound-places-spec : {M : Type 1} → statement M
 sound-places-spec =
@@ -62,8 +58,7 @@ sound-places-spec =
     mul-e
     array-copy-out-e
     sound-place-requires
-    returns
     add-i
     loop-less
     loop-again
-    returns-2)
+    returns)
