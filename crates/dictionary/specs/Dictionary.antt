@@ -109,6 +109,11 @@ lacks Lacking = true
 lacks Whole = false
 lacks (Reference t) = false
 
+abbrev pub isReference : Attribute → Bool
+isReference Lacking = false
+isReference Whole = false
+isReference (Reference t) = true
+
 -- an `unfolding` line that names this opens the table and all that is read off it
 unfoldable pub the-table : Unit {0}
 unfolding dictionary types rowOf isType parentOf schemaOf ownOf bytesOf nameOf climbing climb attributesOf attributeOf

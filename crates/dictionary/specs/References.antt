@@ -1,44 +1,138 @@
--- The attributes of a type that are references, as one word: bit k for attribute k.
-use mathlib.Core.Path.{_≡_, sym, _∙_, ap}
-use Prim.Native.Nat.{ℕ, zero, suc, _+_, _*_, _/_, _%_, _^_, _≤_, _<_}
+-- The reference of a type: which attribute it is, and the types that it may name. No type has two (`reference-only`).
+use mathlib.Core.Path.{_≡_, refl, sym, _∙_, ap}
+use mathlib.Core.Bool.{Bool, true, false, cond, not, _||_, false≢true}
+use mathlib.Core.Logic.{⊎-elim}
+use Prim.Native.Nat.{ℕ, zero, suc, _+_, _/_, _%_, _^_, _≤_, _<_}
 use native.Mathlib.Nat.{div-eq-of-lt, lt-of-lt-of-le}
 use native.Mathlib.Omega.{arith}
+use lib.Dec.{eqb, leb, ltb}
 use lib.Pow.{pow-mono}
+use borrow.Author.Tests.{eqb-true, leb-true, lt-ltb, ltb-true, ltb-false}
 use Rattle.dictionary.specs.declared.answers.Attribute.{Attribute}
 use Rattle.dictionary.specs.declared.answers.Attribute.the-variants.{Lacking, Whole, Reference}
-use Rattle.dictionary.specs.Dictionary.{attributeOf}
-use Rattle.dictionary.specs.AttributeLaws.{attributes-few, attribute-lacking}
+use Rattle.dictionary.specs.Below.{allBelow, below, decided}
+use Rattle.dictionary.specs.Dictionary.{types, isType, isReference, attributeOf, the-table}
+use Rattle.dictionary.specs.TypeLaws.{of-type}
+use Rattle.dictionary.specs.AttributeLaws.{attributes-few, attribute-lacking, no-type-attribute, reference-type}
+use Rattle.dictionary.specs.Subtype.{subtype}
+use Rattle.dictionary.specs.SubtypeLaws.{subtype-type}
 
--- 1 for a reference, 0 for anything else
-abbrev pub referring : Attribute → ℕ
-referring Lacking = 0
-referring Whole = 0
-referring (Reference target) = 1
+-- the answer for a type without a reference
+abbrev pub noReference : ℕ
+noReference = 4
 
 -- no type has more than three attributes
-unfoldable pub referencesOf : ℕ → ℕ
-referencesOf t = referring (attributeOf t 0) + 2 * referring (attributeOf t 1) + 4 * referring (attributeOf t 2)
+unfoldable pub referenceOf : ℕ → ℕ
+referenceOf t =
+    cond (isReference (attributeOf t 0)) 0 (cond (isReference (attributeOf t 1)) 1 (cond (isReference (attributeOf t 2)) 2 noReference))
 
-referring-small : (x : Attribute) → referring x < 2
-referring-small Lacking = omega arith
-referring-small Whole = omega arith
-referring-small (Reference target) = omega arith
+-- a set of numbers below n in one word, bit u for u
+unfoldable pub maskBelow : ℕ → (ℕ → Bool) → ℕ
+maskBelow zero f = 0
+maskBelow (suc n) f = maskBelow n f + cond (f n) (2 ^ n) 0
 
--- above three bits there is none
-none-above : (a b c k : ℕ) → a < 2 → b < 2 → c < 2 → 3 ≤ k → (a + 2 * b + 4 * c) / 2 ^ k % 2 ≡ 0
-none-above a b c k ha hb hc h =
-    let small : a + 2 * b + 4 * c < 2 ^ 3 = omega arith in
-    ap (λ (x : ℕ). x % 2) (div-eq-of-lt (lt-of-lt-of-le small (pow-mono h)))
+-- "an instance of type t or a subtype"
+abbrev pub mayName : Attribute → ℕ → Bool
+mayName Lacking u = false
+mayName Whole u = false
+mayName (Reference target) u = subtype u target
 
--- bit k says whether attribute k is a reference
-pub reference-bit : (t k : ℕ) → referencesOf t / 2 ^ k % 2 ≡ referring (attributeOf t k)
-unfolding referencesOf
-reference-bit t k = at k (referring-small (attributeOf t 0)) (referring-small (attributeOf t 1)) (referring-small (attributeOf t 2))
+unfoldable pub targetsOf : ℕ → ℕ
+targetsOf t = maskBelow types (mayName (attributeOf t (referenceOf t)))
+
+-- what is said of a type without attributes
+no-type-reference : (t : ℕ) → isType t ≡ false → referenceOf t ≡ noReference
+unfolding referenceOf
+no-type-reference t i = rw (no-type-attribute t 0 i, no-type-attribute t 1 i, no-type-attribute t 2 i)
+
+pub no-type-targets : (t : ℕ) → isType t ≡ false → targetsOf t ≡ 0
+unfolding maskBelow targetsOf the-table
+no-type-targets t i = rw (no-type-attribute t (referenceOf t) i)
+
+-- one computed test of every type: the attribute k is a reference only if it is the one
+only-one : (t : ℕ) → isType t ≡ true → allBelow 3 (λ k. not (isReference (attributeOf t k)) || eqb k (referenceOf t)) ≡ true
+unfolding allBelow referenceOf the-table
+only-one t i = of-type (λ t. allBelow 3 (λ k. not (isReference (attributeOf t k)) || eqb k (referenceOf t))) refl t i
+
+reference-there : (t k : ℕ) → isReference (attributeOf t k) ≡ true → attributeOf t k ≡ Lacking → ⊥
+reference-there t k e z = false≢true (sym (ap isReference z) ∙ e)
+
+-- "No type has two"
+pub reference-only : (t k : ℕ) → isReference (attributeOf t k) ≡ true → k ≡ referenceOf t
+reference-only t k e =
+    ⊎-elim (λ i. eqb-true k (referenceOf t) (told (isReference (attributeOf t k)) (eqb k (referenceOf t)) e (below 3 _ (only-one t i) k few)))
+    (λ i. absurd (reference-there t k e (no-type-attribute t k i)))
+    (decided (isType t))
   where
-    at : (k : ℕ) → referring (attributeOf t 0) < 2 → referring (attributeOf t 1) < 2 → referring (attributeOf t 2) < 2 → (referring (attributeOf t 0) + 2 * referring (attributeOf t 1) + 4 * referring (attributeOf t 2)) / 2 ^ k % 2 ≡ referring (attributeOf t k)
-    at zero p q r = omega arith
-    at (suc zero) p q r = omega arith
-    at (suc (suc zero)) p q r = omega arith
-    at (suc (suc (suc k))) p q r =
-        none-above _ _ _ (suc (suc (suc k))) p q r (omega arith)
-        ∙ sym (ap referring (attribute-lacking t (suc (suc (suc k))) (omega (arith, attributes-few t))))
+    told : (x y : Bool) → x ≡ true → (not x || y) ≡ true → y ≡ true
+    told true y p q = q
+    told false y p q = absurd (false≢true p)
+
+    few : k < 3
+    few =
+        ⊎-elim (λ h. ltb-true k 3 h)
+        (λ h. absurd (reference-there t k e (attribute-lacking t k (omega (arith, attributes-few t, ltb-false k 3 h)))))
+        (decided (ltb k 3))
+
+-- a type's other attributes are no references
+pub reference-other : (t k : ℕ) → (k ≡ referenceOf t → ⊥) → isReference (attributeOf t k) ≡ false
+reference-other t k n = ⊎-elim (λ e. absurd (n (reference-only t k e))) (λ e. e) (decided (isReference (attributeOf t k)))
+
+-- the one is a reference, unless there is none
+pub reference-is : (t : ℕ) → referenceOf t < noReference → isReference (attributeOf t (referenceOf t)) ≡ true
+unfolding allBelow referenceOf the-table
+reference-is t h =
+    ⊎-elim (λ i. told (of-type (λ t. not (ltb (referenceOf t) noReference) || isReference (attributeOf t (referenceOf t))) refl t i))
+    (λ i. absurd (above h (no-type-reference t i)))
+    (decided (isType t))
+  where
+    above : referenceOf t < noReference → referenceOf t ≡ noReference → ⊥
+    above p q = omega arith
+
+    told : (not (ltb (referenceOf t) noReference) || isReference (attributeOf t (referenceOf t))) ≡ true → isReference (attributeOf t (referenceOf t)) ≡ true
+    told q = rw (lt-ltb (referenceOf t) noReference h) at q
+
+pub reference-small : (t : ℕ) → referenceOf t ≤ noReference
+unfolding allBelow referenceOf the-table
+reference-small t =
+    ⊎-elim (λ i. leb-true (referenceOf t) noReference (of-type (λ t. leb (referenceOf t) noReference) refl t i))
+    (λ i. rw (no-type-reference t i) (omega arith))
+    (decided (isType t))
+
+-- 1 for yes, 0 for no
+abbrev pub bit : Bool → ℕ
+bit b = cond b 1 0
+
+-- the types that may be named, one computed test of every pair of types
+bit-of-type : (t u : ℕ) → isType t ≡ true → u < types → targetsOf t / 2 ^ u % 2 ≡ bit (mayName (attributeOf t (referenceOf t)) u)
+unfolding allBelow referenceOf maskBelow targetsOf subtype the-table
+bit-of-type t u i h =
+    eqb-true (targetsOf t / 2 ^ u % 2) (bit (mayName (attributeOf t (referenceOf t)) u))
+    (below types (λ u. eqb (targetsOf t / 2 ^ u % 2) (bit (mayName (attributeOf t (referenceOf t)) u)))
+    (of-type (λ t. allBelow types (λ u. eqb (targetsOf t / 2 ^ u % 2) (bit (mayName (attributeOf t (referenceOf t)) u)))) refl t i)
+    u h)
+
+targets-below : (t : ℕ) → isType t ≡ true → targetsOf t < 2 ^ types
+unfolding allBelow referenceOf maskBelow targetsOf subtype the-table
+targets-below t i = ltb-true (targetsOf t) (2 ^ types) (of-type (λ t. ltb (targetsOf t) (2 ^ types)) refl t i)
+
+not-named : (u target : ℕ) → isType target ≡ true → isType u ≡ false → subtype u target ≡ false
+not-named u target p q =
+    ⊎-elim (λ e. absurd (false≢true (sym q ∙ subtype-type u target e ∙ p))) (λ e. e) (decided (subtype u target))
+
+-- the bits of `targetsOf` are the types that the reference may name
+pub target-bit : (t u target : ℕ) → attributeOf t (referenceOf t) ≡ Reference target
+    → targetsOf t / 2 ^ u % 2 ≡ bit (subtype u target)
+unfolding isType
+target-bit t u target w =
+    ⊎-elim (λ i. of-a-type i) (λ i. absurd (no-reference (sym (no-type-attribute t (referenceOf t) i) ∙ w))) (decided (isType t))
+  where
+    no-reference : Lacking ≡ Reference target → ⊥
+    no-reference e = false≢true (ap isReference e)
+
+    of-a-type : isType t ≡ true → targetsOf t / 2 ^ u % 2 ≡ bit (subtype u target)
+    of-a-type i =
+        ⊎-elim (λ h. rw w at (bit-of-type t u i (ltb-true u types h)))
+        (λ h. rw (not-named u target (reference-type t (referenceOf t) target w) h)
+        (ap (λ (x : ℕ). x % 2) (div-eq-of-lt (lt-of-lt-of-le (targets-below t i) (pow-mono (ltb-false u types h))))))
+        (decided (isType u))

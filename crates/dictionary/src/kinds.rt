@@ -4,7 +4,6 @@ use super::types::is_type;
 ghost use mathlib.Core.Path.{_≡_};
 ghost use lib.ListN.{length};
 ghost use Rattle.dictionary.specs.Dictionary.{ownOf, attributesOf, attributeOf};
-ghost use Rattle.dictionary.specs.References.{referencesOf};
 
 // How many attributes a type has of its own.
 pub fn own_attributes(t: u32) -> u32
@@ -86,19 +85,5 @@ fn third(t: u32) -> Attribute
         3 => Attribute::Reference(2),
         6 => Attribute::Whole,
         _ => Attribute::Lacking,
-    }
-}
-
-// The attributes of a type that are references, bit k for attribute k.
-pub fn references(t: u32) -> u64
-    ensures { λ r. ⌜ r ≡ referencesOf t ⌝ }
-{
-    match t {
-        3 => 4,
-        4 => 2,
-        6 => 2,
-        7 => 2,
-        9 => 2,
-        _ => 0,
     }
 }

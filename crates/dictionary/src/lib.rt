@@ -3,6 +3,7 @@
 pub mod answers;
 pub mod kinds;
 pub mod parents;
+pub mod references;
 pub mod types;
 
 pub use answers::Attribute;
@@ -11,9 +12,10 @@ pub use answers::Parent;
 pub use kinds::attribute;
 pub use kinds::attributes;
 pub use kinds::own_attributes;
-pub use kinds::references;
 pub use parents::parent;
 pub use parents::subtype;
+pub use references::reference;
+pub use references::targets;
 pub use types::is_type;
 pub use types::name;
 pub use types::schema;

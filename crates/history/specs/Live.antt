@@ -8,8 +8,7 @@ use Rattle.words.specs.declared.layout.Kind.{Kind}
 use Rattle.words.specs.declared.layout.Kind.the-variants.{Model, SchemaInstance, Instance}
 use Rattle.words.specs.Layout.{countOf}
 use Rattle.words.specs.Fields.{typeIn, modelIn}
-use Rattle.dictionary.specs.Dictionary.{attributeOf}
-use Rattle.tables.specs.References.{isReference}
+use Rattle.dictionary.specs.Dictionary.{isReference, attributeOf}
 use Rattle.tables.specs.declared.changes.Change.{Change}
 use Rattle.tables.specs.declared.changes.Change.the-variants.{Made, Dissolved, Joined, Left, Put, Unset, Deleted, Removed}
 

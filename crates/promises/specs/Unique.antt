@@ -47,9 +47,10 @@ use Rattle.dictionary.proofs.types.schema.Reads as dictionary-types-schema
 use Rattle.dictionary.proofs.kinds.own_attributes.Reads as dictionary-kinds-own-attributes
 use Rattle.dictionary.proofs.kinds.attributes.Reads as dictionary-kinds-attributes
 use Rattle.dictionary.proofs.kinds.attribute.Reads as dictionary-kinds-attribute
-use Rattle.dictionary.proofs.kinds.references.Reads as dictionary-kinds-references
 use Rattle.dictionary.proofs.parents.parent.Reads as dictionary-parents-parent
 use Rattle.dictionary.proofs.parents.subtype.Reads as dictionary-parents-subtype
+use Rattle.dictionary.proofs.references.reference.Reads as dictionary-references-reference
+use Rattle.dictionary.proofs.references.targets.Reads as dictionary-references-targets
 use Rattle.tables.proofs.changes.make.Reads as tables-changes-make
 use Rattle.tables.proofs.changes.dissolve.Reads as tables-changes-dissolve
 use Rattle.tables.proofs.changes.join.Reads as tables-changes-join
@@ -65,8 +66,7 @@ use Rattle.tables.proofs.going.goes.Reads as tables-going-goes
 use Rattle.tables.proofs.going.with.Reads as tables-going-with
 use Rattle.tables.proofs.going.one.Reads as tables-going-one
 use Rattle.tables.proofs.going.those_of.Reads as tables-going-those-of
-use Rattle.tables.proofs.references.pointers_in.Reads as tables-references-pointers-in
-use Rattle.tables.proofs.references.refers.Reads as tables-references-refers
+use Rattle.tables.proofs.references.pointer_in.Reads as tables-references-pointer-in
 use Rattle.tables.proofs.references.held_back.Reads as tables-references-held-back
 use Rattle.tables.proofs.references.held_back_by_instance.Reads as tables-references-held-back-by-instance
 use Rattle.tables.proofs.references.held_back_by_model.Reads as tables-references-held-back-by-model
@@ -284,14 +284,17 @@ dictionary-kinds-attributes-one κs a x y s s′ p q = p ∙ sym q
 pub dictionary-kinds-attribute-one : (κs : _) (a : _) (x y : _) (s s′ : _) → dictionary-kinds-attribute.Post κs a x s → dictionary-kinds-attribute.Post κs a y s′ → x ≡ y
 dictionary-kinds-attribute-one κs a x y s s′ p q = p ∙ sym q
 
-pub dictionary-kinds-references-one : (κs : _) (a : _) (x y : _) (s s′ : _) → dictionary-kinds-references.Post κs a x s → dictionary-kinds-references.Post κs a y s′ → x ≡ y
-dictionary-kinds-references-one κs a x y s s′ p q = p ∙ sym q
-
 pub dictionary-parents-parent-one : (κs : _) (a : _) (x y : _) (s s′ : _) → dictionary-parents-parent.Post κs a x s → dictionary-parents-parent.Post κs a y s′ → x ≡ y
 dictionary-parents-parent-one κs a x y s s′ p q = p ∙ sym q
 
 pub dictionary-parents-subtype-one : (κs : _) (a : _) (x y : _) (s s′ : _) → dictionary-parents-subtype.Post κs a x s → dictionary-parents-subtype.Post κs a y s′ → x ≡ y
 dictionary-parents-subtype-one κs a x y s s′ p q = p ∙ sym q
+
+pub dictionary-references-reference-one : (κs : _) (a : _) (x y : _) (s s′ : _) → dictionary-references-reference.Post κs a x s → dictionary-references-reference.Post κs a y s′ → x ≡ y
+dictionary-references-reference-one κs a x y s s′ p q = p ∙ sym q
+
+pub dictionary-references-targets-one : (κs : _) (a : _) (x y : _) (s s′ : _) → dictionary-references-targets.Post κs a x s → dictionary-references-targets.Post κs a y s′ → x ≡ y
+dictionary-references-targets-one κs a x y s s′ p q = p ∙ sym q
 
 -- ---- tables
 
@@ -340,11 +343,8 @@ tables-going-one-one κs a x y s s′ p q = p ∙ sym q
 pub tables-going-those-of-one : (κs : _) (a : _) (x y : _) (s s′ : _) → tables-going-those-of.Post κs a x s → tables-going-those-of.Post κs a y s′ → x ≡ y
 tables-going-those-of-one κs a x y s s′ p q = p ∙ sym q
 
-pub tables-references-pointers-in-one : (κs : _) (a : _) (x y : _) (s s′ : _) → tables-references-pointers-in.Post κs a x s → tables-references-pointers-in.Post κs a y s′ → x ≡ y
-tables-references-pointers-in-one κs a x y s s′ p q = p ∙ sym q
-
-pub tables-references-refers-one : (κs : _) (a : _) (x y : _) (s s′ : _) → tables-references-refers.Post κs a x s → tables-references-refers.Post κs a y s′ → x ≡ y
-tables-references-refers-one κs a x y s s′ p q = p ∙ sym q
+pub tables-references-pointer-in-one : (κs : _) (a : _) (x y : _) (s s′ : _) → tables-references-pointer-in.Post κs a x s → tables-references-pointer-in.Post κs a y s′ → x ≡ y
+tables-references-pointer-in-one κs a x y s s′ p q = p ∙ sym q
 
 pub tables-references-held-back-one : (κs : _) (a : _) (x y : _) (s s′ : _) → tables-references-held-back.Post κs a x s → tables-references-held-back.Post κs a y s′ → x ≡ y
 tables-references-held-back-one κs a x y s s′ p q = p ∙ sym q

@@ -1,8 +1,9 @@
--- The attributes of an instance that are set and are references, as one word: bit k for attribute k.
+-- The attribute of an instance that is a reference and is set.
 use Prim.Native.Nat.{ℕ}
-use lib.Bits.{bitAnd}
-use Rattle.words.specs.Fields.{typeIn, flagsIn}
-use Rattle.dictionary.specs.References.{referencesOf}
+use mathlib.Core.Bool.{cond}
+use Rattle.words.specs.Fields.{typeIn, values, flagged}
+use Rattle.dictionary.specs.References.{referenceOf}
 
-abbrev pub pointersIn : ℕ → ℕ
-pointersIn h = bitAnd (flagsIn h) (referencesOf (typeIn h))
+-- no type has two references; a number that no attribute has if there is none
+abbrev pub pointerIn : ℕ → ℕ
+pointerIn h = cond (flagged h (referenceOf (typeIn h))) (referenceOf (typeIn h)) values

@@ -1,6 +1,6 @@
 -- References between instances, and what shares a set.
 use Prim.Native.Nat.{ℕ}
-use mathlib.Core.Bool.{Bool, true, false, not, _&&_}
+use mathlib.Core.Bool.{Bool, not, _&&_}
 use mathlib.Core.List.{List}
 use lib.Dec.{eqb}
 use Rattle.words.specs.declared.layout.Kind.the-variants.{SchemaInstance, Instance}
@@ -8,15 +8,8 @@ use Rattle.words.specs.Layout.{countOf}
 use Rattle.words.specs.Search.{anyB}
 use Rattle.words.specs.Sets.{has}
 use Rattle.words.specs.Fields.{values}
-use Rattle.dictionary.specs.declared.answers.Attribute.{Attribute}
-use Rattle.dictionary.specs.declared.answers.Attribute.the-variants.{Lacking, Whole, Reference}
-use Rattle.dictionary.specs.Dictionary.{attributeOf}
+use Rattle.dictionary.specs.Dictionary.{isReference, attributeOf}
 use Rattle.tables.specs.View.{isLive, setAt, typeAt, modelAt, isSet, valueAt}
-
-abbrev pub isReference : Attribute → Bool
-isReference Lacking = false
-isReference Whole = false
-isReference (Reference target) = true
 
 -- those that go with a deletion: of an instance, of a model
 abbrev pub theInstance : ℕ → ℕ → Bool

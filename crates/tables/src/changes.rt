@@ -1,17 +1,15 @@
 // What each change writes. Writing past the last entry, or past the last attribute, changes nothing.
 ghost use mathlib.Core.Path.{_≡_};
-ghost use mathlib.Core.Bool.{cond};
 ghost use Rattle.words.specs.Layout.{countOf};
 ghost use Rattle.words.specs.Fields.{values};
-ghost use Rattle.tables.specs.References.{refers as refersTo};
 ghost use Rattle.tables.specs.Going.{goes};
 ghost use Rattle.tables.specs.Changes as spec;
 use crate::going;
 use crate::going::Going;
-use crate::references::pointers_in;
-use crate::references::refers;
+use crate::references::pointer_in;
 use crate::view::header_at;
 use crate::view::set_at;
+use crate::view::value_at;
 use words::entries::write;
 use words::entries::write_entry;
 use words::fields::VALUES;
@@ -87,25 +85,16 @@ pub fn unset(t: &mut [u64], i: u32, k: u32)
     }
 }
 
-fn detach_at(t: &mut [u64], g: Going, i: u32, k: u32)
-    ensures { λ _. ⌜ now (t .exit) ≡ cond (refersTo (now (t .entry)) (goes g) i k) (spec.withoutValue (now (t .entry)) i k) (now (t .entry)) ⌝ }
-{
-    if refers(t, g, i, k) {
-        unset(t, i, k);
-    }
-}
-
-// "references to them become unset". Most instances have no set reference, and those are done with at once.
+// "references to them become unset"
 fn detach(t: &mut [u64], g: Going, i: u32)
     ensures { λ _. ⌜ now (t .exit) ≡ spec.detached (now (t .entry)) (goes g) i values ⌝ }
 {
-    if pointers_in(header_at(t, i)) == 0 {
+    let k = pointer_in(header_at(t, i));
+    if k == VALUES {
         return;
     }
-    let mut k = 0;
-    while k < VALUES {
-        detach_at(t, g, i, k);
-        k += 1;
+    if going::goes(g, value_at(t, i, k)) {
+        unset(t, i, k);
     }
 }
 

@@ -2,75 +2,54 @@
 // models share a set.
 ghost use mathlib.Core.Path.{_≡_};
 ghost use mathlib.Core.Bool.{_&&_};
-ghost use Rattle.words.specs.Search.{anyB};
 ghost use Rattle.words.specs.Sets.{has as hasBit};
-ghost use Rattle.words.specs.Fields.{values};
 ghost use Rattle.tables.specs.References as spec;
 ghost use Rattle.tables.specs.Going.{goes};
-ghost use Rattle.tables.specs.Pointers.{pointersIn};
+ghost use Rattle.tables.specs.Pointers.{pointerIn};
 use crate::going;
 use crate::going::Going;
 use crate::view::header_at;
 use crate::view::set_at;
-use words::entries::read;
+use crate::view::value_at;
+use dictionary::reference;
 use words::fields::VALUES;
 use words::fields::flags_in;
+use words::fields::is_flagged;
 use words::fields::model_in;
 use words::fields::type_in;
 use words::layout::Kind;
 use words::layout::count;
 use words::sets::has;
 
-// The attributes that are set and are references, bit k for attribute k.
-pub fn pointers_in(header: u64) -> u64
-    ensures { λ r. ⌜ r ≡ pointersIn header ⌝ }
+// The attribute that is a reference and is set; VALUES if there is none. No type has two references, and an instance
+// with no flag at all is done with before the dictionary is asked.
+pub fn pointer_in(header: u64) -> u32
+    ensures { λ r. ⌜ r ≡ pointerIn header ⌝ }
 {
-    (flags_in(header) as u64) & dictionary::references(type_in(header))
+    if flags_in(header) == 0 {
+        return VALUES;
+    }
+    let k = reference(type_in(header));
+    if is_flagged(header, k) { k } else { VALUES }
 }
 
-// Attribute k of instance i is set and refers to an instance that goes.
-pub fn refers(t: &[u64], g: Going, i: u32, k: u32) -> bool
-    ensures { λ r. ⌜ r ≡ spec.refers (now (t .entry)) (goes g) i k ⌝ }
-{
-    if VALUES <= k {
-        return false;
-    }
-    if !has(pointers_in(header_at(t, i)), k) {
-        return false;
-    }
-    going::goes(g, read(t, Kind::Instance, i, 1 + k))
-}
-
-// Some attribute of instance i does.
-fn refers_any(t: &[u64], g: Going, i: u32) -> bool
-    ensures { λ r. ⌜ r ≡ anyB values (spec.refers (now (t .entry)) (goes g) i) ⌝ }
-{
-    let mut k = 0;
-    while k < VALUES {
-        if refers(t, g, i, k) {
-            return true;
-        }
-        k += 1;
-    }
-    false
-}
-
-// "an instance that stays, in another model without RW access, refers to one that would go". Most instances have no
-// set reference, and those are done with at once.
+// "an instance that stays, in another model without RW access, refers to one that would go". Access is asked first: it
+// needs no dictionary.
 fn holds_back(t: &[u64], g: Going, rw: u64, i: u32) -> bool
     ensures { λ r. ⌜ r ≡ spec.holdsBack (now (t .entry)) (goes g) rw i ⌝ }
 {
     let header = header_at(t, i);
-    if pointers_in(header) == 0 {
+    if has(rw, model_in(header)) {
+        return false;
+    }
+    let k = pointer_in(header);
+    if k == VALUES {
         return false;
     }
     if going::goes(g, i as u64) {
         return false;
     }
-    if has(rw, model_in(header)) {
-        return false;
-    }
-    refers_any(t, g, i)
+    going::goes(g, value_at(t, i, k))
 }
 
 pub fn held_back(t: &[u64], g: Going, rw: u64) -> bool

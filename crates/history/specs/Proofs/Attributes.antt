@@ -17,10 +17,9 @@ use Rattle.words.specs.Laws.Bools.{and-left, and-ended}
 use Rattle.words.specs.Laws.Fields.{Alike, header-is-live, type-of-header, model-of-header, alike-with, alike-without, flagged-with, flagged-without}
 use Rattle.dictionary.specs.declared.answers.Attribute.{Attribute}
 use Rattle.dictionary.specs.declared.answers.Attribute.the-variants.{Lacking, Whole, Reference}
-use Rattle.dictionary.specs.Dictionary.{attributeOf}
+use Rattle.dictionary.specs.Dictionary.{isReference, attributeOf}
 use Rattle.tables.specs.View.{isLive, headerAt, typeAt}
 use Rattle.tables.specs.Sound.{soundValue}
-use Rattle.tables.specs.References.{isReference}
 use Rattle.tables.specs.declared.changes.Change.{Change}
 use Rattle.tables.specs.declared.changes.Change.the-variants.{Put, Unset}
 use Rattle.tables.specs.Changes.{apply}

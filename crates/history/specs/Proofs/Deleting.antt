@@ -17,9 +17,9 @@ use Rattle.words.specs.Entries.{wordOf}
 use Rattle.words.specs.Laws.Bools.{and-left, and-right, and-both, and-ended, or-right}
 use Rattle.words.specs.Laws.Sets.{has-none}
 use Rattle.words.specs.Laws.Fields.{header-is-live}
-use Rattle.dictionary.specs.Dictionary.{attributeOf}
+use Rattle.dictionary.specs.Dictionary.{isReference, attributeOf}
 use Rattle.tables.specs.View.{isLive, headerAt, typeAt, valueAt, isSet}
-use Rattle.tables.specs.References.{isReference, theInstance, refers}
+use Rattle.tables.specs.References.{theInstance, refers}
 use Rattle.tables.specs.declared.changes.Change.{Change}
 use Rattle.tables.specs.declared.changes.Change.the-variants.{Deleted}
 use Rattle.tables.specs.Changes.{swept, apply}

@@ -18,10 +18,10 @@ use Rattle.words.specs.Laws.Fields.{header-is-live}
 use Rattle.words.specs.Laws.Entries.{word-same, word-other, words-other}
 use Rattle.dictionary.specs.declared.answers.Attribute.{Attribute}
 use Rattle.dictionary.specs.declared.answers.Attribute.the-variants.{Lacking, Whole, Reference}
-use Rattle.dictionary.specs.Dictionary.{attributeOf}
+use Rattle.dictionary.specs.Dictionary.{isReference, attributeOf}
 use Rattle.tables.specs.View.{isLive, labelAt, setAt, headerAt, typeAt, modelAt, isSet, valueAt}
 use Rattle.tables.specs.Sound.{soundValue}
-use Rattle.tables.specs.References.{isReference, refers, theInstance, thoseOf}
+use Rattle.tables.specs.References.{refers, theInstance, thoseOf}
 use Rattle.tables.specs.declared.changes.Change.the-variants.{Deleted, Removed}
 use Rattle.tables.specs.Changes.{withSet, swept, ungrouped, apply}
 use Rattle.promises.specs.Keeps.Tests.{clash, fails}

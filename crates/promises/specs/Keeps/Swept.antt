@@ -14,9 +14,9 @@ use Rattle.words.specs.Fields.{typeIn, values, flagged, withoutFlag}
 use Rattle.words.specs.Entries.{wordOf}
 use Rattle.words.specs.Laws.Fields.{Alike, alike-without, flagged-without}
 use Rattle.words.specs.Laws.Entries.{words-same}
-use Rattle.dictionary.specs.Dictionary.{attributeOf}
+use Rattle.dictionary.specs.Dictionary.{isReference, attributeOf}
 use Rattle.tables.specs.View.{headerAt, valueAt}
-use Rattle.tables.specs.References.{isReference, refers}
+use Rattle.tables.specs.References.{refers}
 use Rattle.tables.specs.Changes.{withFirst, withoutValue, detached, swept}
 use Rattle.promises.specs.Keeps.Tests.{clash}
 use Rattle.promises.specs.Keeps.Frame.{same-or-not, alike-same}

@@ -1,8 +1,11 @@
 -- Changes: what each leaves alone, and the two deletions by the set of those that go.
-use mathlib.Core.Path.{_≡_, refl, ap, _∙_}
+use mathlib.Core.Path.{_≡_, refl, sym, ap, _∙_}
+use mathlib.Core.Logic.{⊎-elim, _⊎_, inl, inr}
 use mathlib.Core.Bool.{Bool, true, false, cond}
 use mathlib.Core.List.{List, [], _∷_}
-use Prim.Native.Nat.{ℕ, zero, suc, _+_, _≤_}
+use Prim.Native.Nat.{ℕ, zero, suc, _+_, _≤_, _<_}
+use native.Mathlib.Nat.{eq-or-lt-of-le, le-of-suc-le-suc}
+use native.Mathlib.Decide.{ℕ-discrete}
 use native.Mathlib.Omega.{arith}
 use lib.Dec.{ltb}
 use lib.ListN.{length, getD, set, drop}
@@ -12,19 +15,21 @@ use Rattle.words.specs.declared.layout.Kind.{Kind}
 use Rattle.words.specs.declared.layout.Kind.the-variants.{Model, SchemaInstance, Instance}
 use Rattle.words.specs.Layout.{words, strideOf, countOf, placeOf}
 use Rattle.words.specs.Sets.{insert, remove}
-use Rattle.words.specs.Fields.{values, withFlag, withoutFlag}
+use Rattle.words.specs.Fields.{typeIn, values, withFlag, withoutFlag}
 use Rattle.words.specs.Entries.{inEntry, wordOf, withWord}
 use Rattle.words.specs.Laws.Bools.{and-ended}
-use Rattle.words.specs.Laws.Entries.{length-word, word-beyond, length-words, words-beyond}
+use Rattle.words.specs.Laws.Fields.{alike-without}
+use Rattle.words.specs.Laws.Entries.{length-word, word-written, word-other, word-beyond, length-words, words-beyond}
+use Rattle.dictionary.specs.References.{referenceOf}
 use Rattle.tables.specs.declared.changes.Change.{Change}
 use Rattle.tables.specs.declared.changes.Change.the-variants.{Made, Dissolved, Joined, Left, Put, Unset, Deleted, Removed}
-use Rattle.tables.specs.View.{setAt, headerAt}
+use Rattle.tables.specs.View.{setAt, headerAt, typeAt, valueAt}
 use Rattle.tables.specs.References.{theInstance, thoseOf, refers}
 use Rattle.tables.specs.Changes.{withFirst, withoutValue, detached, swept, ungrouped, apply}
 use Rattle.tables.specs.Going.{goes, oneGoing, gathered}
-use Rattle.tables.specs.Pointers.{pointersIn}
+use Rattle.tables.specs.Pointers.{pointerIn}
 use Rattle.tables.specs.Laws.Going.{goes-one, goes-those}
-use Rattle.tables.specs.Laws.References.{refers-nowhere}
+use Rattle.tables.specs.Laws.References.{Pointer, refers-other, no-pointer}
 
 -- a word written back as it is
 pub written-back : (t : List ℕ) (kind : Kind) (i k : ℕ) → withWord t kind i k (wordOf t kind i k) ≡ t
@@ -54,17 +59,57 @@ module _ (t : List ℕ) (i k : ℕ) (none : values ≤ k) where
 
 -- ---- deletions
 
-module _ (t : List ℕ) (gone : ℕ → Bool) (i : ℕ) (bare : pointersIn (headerAt t i) ≡ 0) where
-  unchanged : (n : ℕ) → n ≤ values → detached t gone i n ≡ t
+-- unsetting an attribute leaves the type, in a table of any length
+type-kept : (t : List ℕ) (i k : ℕ) → k < values → typeAt (withoutValue t i k) i ≡ typeAt t i
+type-kept t i k l = ⊎-elim (λ e. ap typeIn e ∙ alike-without (headerAt t i) k l .types) (λ e. ap (λ (s : List ℕ). typeAt s i) e ∙ ap typeIn first) (word-written (withWord t Instance i (1 + k) 0) Instance i 0 (withoutFlag (headerAt t i) k))
+  where
+    first : headerAt (withWord t Instance i (1 + k) 0) i ≡ headerAt t i
+    first = word-other t Instance i (1 + k) 0 Instance i 0 (λ s. omega (arith, s .places))
+
+module _ (t : List ℕ) (gone : ℕ → Bool) (i : ℕ) where
+  unchanged : (n : ℕ) → ((k : ℕ) → k < n → refers t gone i k ≡ false) → detached t gone i n ≡ t
   unfolding detached
   unchanged zero h = refl
   unchanged (suc n) h =
-      ap (λ (s : List ℕ). cond (refers s gone i n) (withoutValue s i n) s) (unchanged n (omega arith))
-      ∙ ap (λ (b : Bool). cond b (withoutValue t i n) t) (refers-nowhere t gone i bare n h)
+      ap (λ (s : List ℕ). cond (refers s gone i n) (withoutValue s i n) s) (unchanged n (λ k l. h k (omega arith)))
+      ∙ ap (λ (b : Bool). cond b (withoutValue t i n) t) (h n (omega arith))
 
   -- of an instance with no set reference nothing becomes unset
-  pub bare-stays : detached t gone i values ≡ t
-  bare-stays = unchanged values (omega arith)
+  pub bare-stays : pointerIn (headerAt t i) ≡ values → detached t gone i values ≡ t
+  bare-stays e = unchanged values (λ k l. no-pointer t gone i e k)
+
+  module _ (k : ℕ) (w : Pointer t gone i k) where
+    other : (j : ℕ) → (j ≡ k → ⊥) → refers t gone i j ≡ false
+    other j n = refers-other t gone i j (λ e. n (e ∙ sym (w .reference)))
+
+    -- nor of one whose reference leads to an instance that stays
+    pub pointer-stays : gone (valueAt t i k) ≡ false → detached t gone i values ≡ t
+    pointer-stays e = unchanged values (λ j l. told j (ℕ-discrete j k))
+      where
+        told : (j : ℕ) → Dec (j ≡ k) → refers t gone i j ≡ false
+        told j (yes q) = ap (refers t gone i) q ∙ w .asks ∙ e
+        told j (no n) = other j n
+
+    after : gone (valueAt t i k) ≡ true → (n : ℕ) → k < n → detached t gone i n ≡ withoutValue t i k
+    unfolding detached
+    after e zero l = absurd (omega arith)
+    after e (suc n) l = told (eq-or-lt-of-le (le-of-suc-le-suc l)) (λ m. after e n m)
+      where
+        past : k < n → refers (withoutValue t i k) gone i n ≡ false
+        past m = refers-other (withoutValue t i k) gone i n (λ q. omega (arith, q ∙ ap referenceOf (type-kept t i k (w .below)) ∙ sym (w .reference)))
+
+        told : (k ≡ n) ⊎ (k < n) → (k < n → detached t gone i n ≡ withoutValue t i k) → detached t gone i (suc n) ≡ withoutValue t i k
+        told (inl q) before =
+            ap (λ (s : List ℕ). cond (refers s gone i n) (withoutValue s i n) s) (unchanged n (λ j m. other j (λ d. omega arith)))
+            ∙ ap (λ (j : ℕ). cond (refers t gone i j) (withoutValue t i j) t) (sym q)
+            ∙ ap (λ (b : Bool). cond b (withoutValue t i k) t) (w .asks ∙ e)
+        told (inr m) before =
+            ap (λ (s : List ℕ). cond (refers s gone i n) (withoutValue s i n) s) (before m)
+            ∙ ap (λ (b : Bool). cond b (withoutValue (withoutValue t i k) i n) (withoutValue t i k)) (past m)
+
+    -- that reference, and nothing else, becomes unset
+    pub pointer-goes : gone (valueAt t i k) ≡ true → detached t gone i values ≡ withoutValue t i k
+    pointer-goes e = after e values (w .below)
 
 -- by the set of those that go
 module _ (t : List ℕ) where

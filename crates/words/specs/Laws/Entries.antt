@@ -5,9 +5,10 @@ use mathlib.Core.Bool.{Bool, true, false, cond}
 use mathlib.Core.List.{List}
 use Prim.Native.Nat.{ℕ, zero, suc, _+_, _-_, _≤_, _<_}
 use native.Mathlib.Nat.{eq-or-lt-of-le, le-of-suc-le-suc}
+use native.Mathlib.Decide.{decLt}
 use native.Mathlib.Omega.{arith}
 use lib.ListN.{length, getD, set, drop, length-set}
-use lib.Seq.{getD-set-same, getD-set-other, drop-set-lt}
+use lib.Seq.{getD-set-same, getD-set-other, set-out, drop-set-lt}
 use Rattle.words.specs.declared.layout.Kind.{Kind}
 use Rattle.words.specs.Layout.{words, strideOf, countOf, placeOf}
 use Rattle.words.specs.Entries.{inEntry, wordOf, withWord, withWords, freeAt, firstFree}
@@ -38,6 +39,18 @@ module _ (t : List ℕ) (kind : Kind) (i k w : ℕ) where
   word-same hi hk long =
       let inside = in-use kind i k hi hk in
       rw (entry-test kind i k .passes (hi, hk)) (getD-set-same t (placeOf kind i + k) w 0 (omega arith))
+
+  -- in a table of any length: the word is written, or nothing changes
+  pub word-written : (wordOf (withWord t kind i k w) kind i k ≡ w) ⊎ (withWord t kind i k w ≡ t)
+  word-written = told (inEntry kind i k)
+    where
+      placed : Dec (placeOf kind i + k < length t) → (getD (set t (placeOf kind i + k) w) (placeOf kind i + k) 0 ≡ w) ⊎ (set t (placeOf kind i + k) w ≡ t)
+      placed (yes l) = inl (getD-set-same t (placeOf kind i + k) w 0 l)
+      placed (no l) = inr (set-out t (placeOf kind i + k) w (omega arith))
+
+      told : (b : Bool) → (cond b (getD (cond b (set t (placeOf kind i + k) w) t) (placeOf kind i + k) 0) 0 ≡ w) ⊎ (cond b (set t (placeOf kind i + k) w) t ≡ t)
+      told true = placed (decLt (placeOf kind i + k) (length t))
+      told false = inr refl
 
   pub word-other : (kind′ : Kind) (i′ k′ : ℕ) → (Same kind kind′ i i′ k k′ → ⊥) → wordOf (withWord t kind i k w) kind′ i′ k′ ≡ wordOf t kind′ i′ k′
   word-other kind′ i′ k′ apart = told (inEntry kind i k) refl (inEntry kind′ i′ k′) refl

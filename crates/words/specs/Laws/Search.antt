@@ -5,7 +5,7 @@ use mathlib.Core.Logic.{⊎-elim, _⊎_, inl, inr}
 use mathlib.Core.List.{_∷_, List·Memᴰ, List·Memᴰ·head, List·Memᴰ·tail, List·Memᴰ·cases-cons, List·Memᴰ·not-nil}
 use Prim.Native.Nat.{ℕ, zero, suc, _+_, _-_, _≤_, _<_}
 use native.Mathlib.Nat.{not-suc-le-zero, eq-or-lt-of-le, le-of-suc-le-suc}
-use native.Mathlib.Decide.{decLe}
+use native.Mathlib.Decide.{decLe, ℕ-discrete}
 use native.Mathlib.Numerals.{add-one}
 use native.Mathlib.Omega.{arith}
 use Rattle.words.specs.Search.{allB, anyB, firstFrom, keptFrom}
@@ -44,6 +44,23 @@ pub any-stop : (n : ℕ) (f : ℕ → Bool) (i : ℕ) → i < n → f i ≡ true
 unfolding anyB
 any-stop zero f i l p = absurd (not-suc-le-zero l)
 any-stop (suc n) f i l p = ⊎-elim (λ e. or-right (anyB n f) (f n) (ap f (sym e) ∙ p)) (λ m. rw (any-stop n f i m p)) (eq-or-lt-of-le (le-of-suc-le-suc l))
+
+pub none-from : (n : ℕ) (f : ℕ → Bool) → ((i : ℕ) → i < n → f i ≡ false) → anyB n f ≡ false
+unfolding anyB
+none-from zero f h = refl
+none-from (suc n) f h = or-none (anyB n f) (f n) (none-from n f (λ i l. h i (omega arith))) (h n (omega arith))
+
+-- where no other number passes, one decides
+pub any-only : (n : ℕ) (f : ℕ → Bool) (k : ℕ) → k < n → ((i : ℕ) → (i ≡ k → ⊥) → f i ≡ false) → anyB n f ≡ f k
+any-only n f k l others = tell (f k) refl
+  where
+    at : (i : ℕ) → f k ≡ false → Dec (i ≡ k) → f i ≡ false
+    at i p (yes e) = ap f e ∙ p
+    at i p (no d) = others i d
+
+    tell : (b : Bool) → f k ≡ b → anyB n f ≡ b
+    tell true p = any-stop n f k l p
+    tell false p = none-from n f (λ i m. at i p (ℕ-discrete i k))
 
 -- where some number passes, which one
 pub record Passing (n : ℕ) (f : ℕ → Bool) : Type 0 where

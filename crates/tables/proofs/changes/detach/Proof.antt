@@ -1,73 +1,70 @@
--- With no set reference the definition changes nothing; else after k turns the first k attributes are detached. The measure is the attributes left.
-use mathlib.Core.Path.{_≡_, refl, sym, ap, _∙_}
-use Prim.Native.Nat.{_≤_, _-_}
-use native.Mathlib.Numerals.{add-one}
-use native.Mathlib.Omega.{arith}
-use borrow.Author.Needs.{needs}
-use lib.ListN.{length}
-use Rattle.words.specs.Fields.{values}
+-- With no set reference the definition changes nothing; else the one reference becomes unset or stays by what it names.
+use mathlib.Core.Path.{_≡_, sym, ap, _∙_}
+use Rattle.tables.specs.View.{headerAt, valueAt}
 use Rattle.tables.specs.Going.{goes}
-use Rattle.tables.specs.Pointers.{pointersIn}
-use Rattle.tables.specs.Changes.{detached}
-use Rattle.tables.specs.Laws.Changes.{bare-stays}
+use Rattle.tables.specs.Pointers.{pointerIn}
+use Rattle.tables.specs.Changes.{apply}
+use Rattle.tables.specs.Laws.References.{Pointer, the-pointer}
+use Rattle.tables.specs.Laws.Changes.{bare-stays, pointer-stays, pointer-goes}
+use borrow.Author.Needs.{needs}
 use Rattle.tables.proofs.changes.detach.Statement.{statement}
 use Rattle.tables.proofs.changes.detach.Tie as tie
 
-abbrev Inv-loop : tie.InvT-loop
-Inv-loop t₀ g i k₀ t k = (k ≤ values) × (t ≡ detached t₀ (goes g) i k) × (length t ≡ length t₀)
+pointer : (c : tie.After-pointer-in) → c .pointer-in .result ≡ pointerIn (headerAt (c .before .before .before .before .args .t .now) (c .before .before .before .before .args .i))
+pointer c = c .pointer-in .ensures ∙ ap pointerIn (c .before .header-at .ensures)
 
-abbrev μ-loop : tie.MeasureT-loop
-μ-loop t₀ g i k₀ t k = values - k
+set : (c : tie.After-goes) → Pointer (c .before .before .before .before .before .before .before .before .args .t .now) (goes (c .before .before .before .before .before .before .before .before .args .g)) (c .before .before .before .before .before .before .before .before .args .i) (c .before .before .before .before .pointer-in .result)
+set c = rw (pointer (c .before .before .before .before)) (the-pointer (c .before .before .before .before .before .before .before .before .args .t .now) (goes (c .before .before .before .before .before .before .before .before .args .g)) (c .before .before .before .before .before .before .before .before .args .i) (λ e. c .before .before .before .if1 .left (pointer (c .before .before .before .before) ∙ e)))
 
-header-at-requires : tie.Need-header-at-requires Inv-loop μ-loop
+asked : (c : tie.After-goes) → goes (c .before .before .before .before .before .before .before .before .args .g) (valueAt (c .before .before .before .before .before .before .before .before .args .t .now) (c .before .before .before .before .before .before .before .before .args .i) (c .before .before .before .before .pointer-in .result)) ≡ c .goes .result
+asked c = ap (goes (c .before .before .before .before .before .before .before .before .args .g)) (sym (c .before .value-at .ensures)) ∙ sym (c .goes .ensures)
+
+header-at-requires : tie.Need-header-at-requires
 header-at-requires c κs = search needs
 
-pointers-in-requires : tie.Need-pointers-in-requires Inv-loop μ-loop
-pointers-in-requires c κs = search needs
+pointer-in-requires : tie.Need-pointer-in-requires
+pointer-in-requires c κs = search needs
 
-same-length : tie.Need-same-length Inv-loop μ-loop
-same-length c = refl
+same-length : tie.Need-same-length
+same-length c = search needs
 
-returns : tie.Need-returns Inv-loop μ-loop
-returns c = sym (bare-stays (c .before .before .before .before .before .args .t .now) (goes (c .before .before .before .before .before .args .g)) (c .before .before .before .before .before .args .i) (ap pointersIn (sym (c .before .before .header-at .ensures)) ∙ sym (c .before .pointers-in .ensures) ∙ c .if1 .taken))
+returns : tie.Need-returns
+returns c = sym (bare-stays (c .before .before .before .before .before .args .t .now) (goes (c .before .before .before .before .before .args .g)) (c .before .before .before .before .before .args .i) (sym (pointer (c .before)) ∙ c .if1 .taken))
 
-loop-holds : tie.Need-loop-holds Inv-loop μ-loop
-unfolding detached
-loop-holds c = (omega arith, refl, refl)
+value-at-requires : tie.Need-value-at-requires
+value-at-requires c κs = search needs
 
-detach-at-requires : tie.Need-detach-at-requires Inv-loop μ-loop
-detach-at-requires c κs = search needs
+goes-requires : tie.Need-goes-requires
+goes-requires c κs = search needs
 
-add-k : tie.Need-add-k Inv-loop μ-loop
-add-k c = omega arith
+unset-requires : tie.Need-unset-requires
+unset-requires c κs = search needs
 
-loop-less : tie.Need-loop-less Inv-loop μ-loop
-loop-less c = omega arith
+same-length-2 : tie.Need-same-length-2
+same-length-2 c = search needs
 
-loop-again : tie.Need-loop-again Inv-loop μ-loop
-unfolding detached
-loop-again c = (omega arith, rw (add-one, ← c .before .before .before .before .before .loop .inv .1) (c .before .before .detach-at .ensures), c .before .before .detach-at .kept .0 ∙ c .before .before .before .before .before .loop .inv .2)
+returns-2 : tie.Need-returns-2
+unfolding apply
+returns-2 c = c .before .before .unset .ensures ∙ sym (pointer-goes (c .before .before .before .before .before .before .before .before .before .before .before .before .before .args .t .now) (goes (c .before .before .before .before .before .before .before .before .before .before .before .before .before .args .g)) (c .before .before .before .before .before .before .before .before .before .before .before .before .before .args .i) (c .before .before .before .before .before .before .before .before .before .pointer-in .result) (set (c .before .before .before .before .before)) (asked (c .before .before .before .before .before) ∙ c .before .before .before .before .if2 .taken))
 
-same-length-2 : tie.Need-same-length-2 Inv-loop μ-loop
-same-length-2 c = c .before .loop .inv .2
+same-length-3 : tie.Need-same-length-3
+same-length-3 c = search needs
 
-returns-2 : tie.Need-returns-2 Inv-loop μ-loop
-returns-2 c = let e : c .before .loop .k ≡ values = omega arith in rw (← e) (c .before .loop .inv .1)
+returns-3 : tie.Need-returns-3
+returns-3 c = sym (pointer-stays (c .before .before .before .before .before .before .before .before .before .args .t .now) (goes (c .before .before .before .before .before .before .before .before .before .args .g)) (c .before .before .before .before .before .before .before .before .before .args .i) (c .before .before .before .before .before .pointer-in .result) (set (c .before)) (asked (c .before) ∙ c .if2 .left))
 
 pub detach-spec : {M : Type 1} → statement M
 detach-spec =
     tie.close
     (tie.spec
-    Inv-loop
-    μ-loop
     header-at-requires
-    pointers-in-requires
+    pointer-in-requires
     same-length
     returns
-    loop-holds
-    detach-at-requires
-    add-k
-    loop-less
-    loop-again
+    value-at-requires
+    goes-requires
+    unset-requires
     same-length-2
-    returns-2)
+    returns-2
+    same-length-3
+    returns-3)
