@@ -24,7 +24,6 @@ use Rattle.words.proofs.fields.with_flag.Reads as words-fields-with-flag
 use Rattle.words.proofs.fields.without_flag.Reads as words-fields-without-flag
 use Rattle.words.proofs.fields.value_in.Reads as words-fields-value-in
 use Rattle.words.proofs.fields.is_free.Reads as words-fields-is-free
-use Rattle.words.proofs.fields.is_well_formed.Reads as words-fields-is-well-formed
 use Rattle.words.proofs.fields.is_named.Reads as words-fields-is-named
 use Rattle.words.proofs.sets.has.Reads as words-sets-has
 use Rattle.words.proofs.sets.with.Reads as words-sets-with
@@ -36,7 +35,6 @@ use Rattle.words.proofs.entries.write.Reads as words-entries-write
 use Rattle.words.proofs.entries.read_entry.Reads as words-entries-read-entry
 use Rattle.words.proofs.entries.write_entry.Reads as words-entries-write-entry
 use Rattle.words.proofs.search.first_free.Reads as words-search-first-free
-use Rattle.words.proofs.search.all_formed.Reads as words-search-all-formed
 use Rattle.words.proofs.search.is_taken.Reads as words-search-is-taken
 use Rattle.words.proofs.copies.is_long.Reads as words-copies-is-long
 use Rattle.words.proofs.copies.agree.Reads as words-copies-agree
@@ -213,9 +211,6 @@ words-fields-value-in-one κs a x y s s′ p q = p ∙ sym q
 pub words-fields-is-free-one : (κs : _) (a : _) (x y : _) (s s′ : _) → words-fields-is-free.Post κs a x s → words-fields-is-free.Post κs a y s′ → x ≡ y
 words-fields-is-free-one κs a x y s s′ p q = p ∙ sym q
 
-pub words-fields-is-well-formed-one : (κs : _) (a : _) (x y : _) (s s′ : _) → words-fields-is-well-formed.Post κs a x s → words-fields-is-well-formed.Post κs a y s′ → x ≡ y
-words-fields-is-well-formed-one κs a x y s s′ p q = p ∙ sym q
-
 pub words-fields-is-named-one : (κs : _) (a : _) (x y : _) (s s′ : _) → words-fields-is-named.Post κs a x s → words-fields-is-named.Post κs a y s′ → x ≡ y
 words-fields-is-named-one κs a x y s s′ p q = p ∙ sym q
 
@@ -248,9 +243,6 @@ words-entries-write-entry-one κs a x y s s′ p q = p ∙ sym q
 
 pub words-search-first-free-one : (κs : _) (a : _) (x y : _) (s s′ : _) → words-search-first-free.Post κs a x s → words-search-first-free.Post κs a y s′ → x ≡ y
 words-search-first-free-one κs a x y s s′ p q = p ∙ sym q
-
-pub words-search-all-formed-one : (κs : _) (a : _) (x y : _) (s s′ : _) → words-search-all-formed.Post κs a x s → words-search-all-formed.Post κs a y s′ → x ≡ y
-words-search-all-formed-one κs a x y s s′ p q = p ∙ sym q
 
 pub words-search-is-taken-one : (κs : _) (a : _) (x y : _) (s s′ : _) → words-search-is-taken.Post κs a x s → words-search-is-taken.Post κs a y s′ → x ≡ y
 words-search-is-taken-one κs a x y s s′ p q = p ∙ sym q

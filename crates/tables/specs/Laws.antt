@@ -4,6 +4,7 @@ pub mod Sound
 pub mod Live
 pub mod Values
 pub mod Names
+pub mod Labels
 pub mod Going
 pub mod References
 pub mod Changes

@@ -4,6 +4,7 @@ pub mod References
 pub mod Changes
 pub mod Names
 pub mod Live
+pub mod Labels
 pub mod Values
 pub mod Going
 pub mod Pointers

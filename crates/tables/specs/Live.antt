@@ -1,9 +1,9 @@
--- The live models of each schema as sets, and the tests of Sound.antt that they answer.
+-- The live entries of each schema as sets, and the tests of Sound.antt that they answer.
 use Prim.Native.Nat.{ℕ, zero, suc}
 use mathlib.Core.Bool.{Bool, cond, not, _&&_, _||_}
 use mathlib.Core.List.{List}
 use lib.Dec.{eqb}
-use Rattle.words.specs.declared.layout.Kind.the-variants.{Model}
+use Rattle.words.specs.declared.layout.Kind.{Kind}
 use Rattle.words.specs.Layout.{countOf}
 use Rattle.words.specs.Search.{allB}
 use Rattle.words.specs.Sets.{bits, none, has, insert}
@@ -19,13 +19,26 @@ isOf schema w = not (isFree w) && eqb (schemaIn w) schema
 abbrev pub withIf : Bool → ℕ → ℕ → ℕ
 withIf joins set m = cond joins (insert set m) set
 
--- those of the first n models that are live and of this schema
-unfoldable pub liveOf : List ℕ → ℕ → ℕ → ℕ
-liveOf t schema zero = none
-liveOf t schema (suc n) = withIf (isOf schema (labelAt t Model n)) (liveOf t schema n) n
+-- those of the first n entries of a kind that are live and of this schema
+unfoldable pub liveOf : List ℕ → Kind → ℕ → ℕ → ℕ
+liveOf t kind schema zero = none
+liveOf t kind schema (suc n) = withIf (isOf schema (labelAt t kind n)) (liveOf t kind schema n) n
 
-abbrev pub liveIn : List ℕ → Live
-liveIn t = record { first = liveOf t 1 (countOf Model); second = liveOf t 2 (countOf Model) }
+abbrev pub liveBelow : List ℕ → Kind → ℕ → Live
+liveBelow t kind n = record { first = liveOf t kind 1 n; second = liveOf t kind 2 n }
+
+abbrev pub liveIn : List ℕ → Kind → Live
+liveIn t kind = liveBelow t kind (countOf kind)
+
+abbrev pub noLive : Live
+noLive = record { first = none; second = none }
+
+-- with entry i, which is of this schema
+abbrev pub withLive : Live → ℕ → ℕ → Live
+withLive live schema i =
+    cond (eqb schema 1)
+    (record { first = insert (live .first) i; second = live .second })
+    (record { first = live .first; second = insert (live .second) i })
 
 abbrev pub ofSchema : Live → ℕ → ℕ
 ofSchema live schema = cond (eqb schema 1) (live .first) (live .second)

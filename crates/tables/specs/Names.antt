@@ -11,6 +11,9 @@ use Rattle.tables.specs.Sound.{sameName}
 abbrev pub isNew : List ℕ → Kind → ℕ → Bool
 isNew t kind i = allB i (λ j. not (sameName (labelAt t kind i) (labelAt t kind j)))
 
+abbrev pub buckets : ℕ
+buckets = 1021
+
 -- by name and repository, the low 40 bits of a label
 abbrev pub bucketOf : ℕ → ℕ
-bucketOf w = w % 0x100_0000_0000 % 251
+bucketOf w = w % 0x100_0000_0000 % buckets

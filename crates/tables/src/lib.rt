@@ -2,6 +2,7 @@
 // asked through the crates below, by their contracts.
 pub mod changes;
 pub mod going;
+mod labels;
 mod live;
 mod names;
 pub mod references;

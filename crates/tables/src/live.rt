@@ -1,16 +1,11 @@
-// The live models of each schema as sets, built once, so that a set of models and an instance's model are tested by one word.
+// The live entries of each schema as sets, built once, so that a set of models and an instance's model are tested by one word.
 ghost use mathlib.Core.Path.{_≡_};
-ghost use Rattle.tables.specs.Live.{isOf, withIf, ofSchema, liveIn, within, headerFits};
-use super::view::label_at;
+ghost use Rattle.tables.specs.Live.{noLive, withLive, ofSchema, within, headerFits};
 use dictionary::is_type;
 use dictionary::schema;
-use words::fields::is_free;
 use words::fields::is_header;
 use words::fields::model_in;
-use words::fields::schema_in;
 use words::fields::type_in;
-use words::layout::Kind;
-use words::layout::count;
 use words::sets::EMPTY;
 use words::sets::has;
 use words::sets::with;
@@ -20,33 +15,30 @@ pub struct Live {
     pub second: u64,
 }
 
-// A live model's label, of this schema.
-fn is_of(label: u64, schema: u32) -> bool
-    ensures { λ r. ⌜ r ≡ isOf schema label ⌝ }
+pub fn nobody() -> Live
+    ensures { λ r. ⌜ r ≡ noLive ⌝ }
 {
-    !is_free(label) & (schema_in(label) == schema)
-}
-
-fn with_if(set: u64, m: u32, joins: bool) -> u64
-    ensures { λ r. ⌜ r ≡ withIf joins set m ⌝ }
-{
-    if joins { with(set, m) } else { set }
-}
-
-pub fn live_in(t: &[u64]) -> Live
-    ensures { λ r. ⌜ r ≡ liveIn (now (t .entry)) ⌝ }
-{
-    let n = count(Kind::Model);
-    let mut first = EMPTY;
-    let mut second = EMPTY;
-    let mut m = 0;
-    while m < n {
-        let label = label_at(t, Kind::Model, m);
-        first = with_if(first, m, is_of(label, 1));
-        second = with_if(second, m, is_of(label, 2));
-        m += 1;
+    Live {
+        first: EMPTY,
+        second: EMPTY,
     }
-    Live { first, second }
+}
+
+// With entry i, which is of this schema.
+pub fn joined(live: Live, schema: u32, i: u32) -> Live
+    ensures { λ r. ⌜ r ≡ withLive live schema i ⌝ }
+{
+    if schema == 1 {
+        Live {
+            first: with(live.first, i),
+            second: live.second,
+        }
+    } else {
+        Live {
+            first: live.first,
+            second: with(live.second, i),
+        }
+    }
 }
 
 pub fn of_schema(live: Live, schema: u32) -> u64

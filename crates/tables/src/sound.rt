@@ -1,18 +1,20 @@
 // Whether tables are sound, clause by clause as the page has it.
 ghost use mathlib.Core.Path.{_≡_};
+ghost use mathlib.Core.Bool.{true, _&&_};
 ghost use Prim.Native.Nat.{_≤_, _<_};
 ghost use lib.ListN.{length};
-ghost use Rattle.words.specs.declared.layout.Kind.the-variants.{SchemaInstance, Instance};
+ghost use Rattle.words.specs.declared.layout.Kind.the-variants.{Model, SchemaInstance, Instance};
 ghost use Rattle.words.specs.Layout.{words, countOf};
 ghost use Rattle.words.specs.Search.{allB};
 ghost use Rattle.tables.specs.Live.{liveIn};
+ghost use Rattle.tables.specs.Labels.{labelled, soundLabels, testedEntries, soundEntries, sameEntries};
 ghost use Rattle.tables.specs.Sound.{soundGroup, soundInstance, soundTable, soundTables};
+use super::labels::Tested;
+use super::labels::test_labels;
 use super::live::Live;
 use super::live::header_fits;
 use super::live::is_within;
-use super::live::live_in;
 use super::live::of_schema;
-use super::names::all_distinct;
 use super::values::flags_fit;
 use super::values::no_values;
 use super::values::values_fit;
@@ -21,17 +23,16 @@ use super::view::set_at;
 use words::copies::agree;
 use words::copies::is_long;
 use words::fields::is_free;
-use words::fields::is_label;
 use words::fields::schema_in;
 use words::layout::Kind;
+use words::layout::base;
 use words::layout::count;
 use words::layout::place;
-use words::search::all_formed;
 use words::sets::is_empty;
 
 // "a set names only live models of the same schema"; "Free: both 0."
 fn sound_group(t: &[u64], live: Live, s: u32) -> bool
-    requires { ⌜ live ≡ liveIn (now t) ⌝ }
+    requires { ⌜ (live ≡ liveIn (now t) Model) × (labelled (now t) SchemaInstance s ≡ true) ⌝ }
     ensures { λ r. ⌜ r ≡ soundGroup (now (t .entry)) s ⌝ }
 {
     let label = label_at(t, Kind::SchemaInstance, s);
@@ -39,11 +40,11 @@ fn sound_group(t: &[u64], live: Live, s: u32) -> bool
     if is_free(label) {
         return is_empty(set);
     }
-    is_label(label) & is_within(set, of_schema(live, schema_in(label)))
+    is_within(set, of_schema(live, schema_in(label)))
 }
 
 fn sound_groups(t: &[u64], live: Live) -> bool
-    requires { ⌜ live ≡ liveIn (now t) ⌝ }
+    requires { ⌜ (live ≡ liveIn (now t) Model) × (soundLabels (now t) SchemaInstance ≡ true) ⌝ }
     ensures { λ r. ⌜ r ≡ allB (countOf SchemaInstance) (soundGroup (now (t .entry))) ⌝ }
 {
     let n = count(Kind::SchemaInstance);
@@ -59,7 +60,7 @@ fn sound_groups(t: &[u64], live: Live) -> bool
 
 // The table is long enough, so the words are read where they stand.
 fn sound_instance(t: &[u64], live: Live, i: u32) -> bool
-    requires { ⌜ (live ≡ liveIn (now t)) × (words ≤ length (now t)) × (i < countOf Instance) ⌝ }
+    requires { ⌜ (live ≡ liveIn (now t) Model) × (words ≤ length (now t)) × (i < countOf Instance) ⌝ }
     ensures { λ r. ⌜ r ≡ soundInstance (now (t .entry)) i ⌝ }
 {
     let at = place(Kind::Instance, i);
@@ -77,7 +78,7 @@ fn sound_instance(t: &[u64], live: Live, i: u32) -> bool
 }
 
 fn sound_instances(t: &[u64], live: Live) -> bool
-    requires { ⌜ (live ≡ liveIn (now t)) × (words ≤ length (now t)) ⌝ }
+    requires { ⌜ (live ≡ liveIn (now t) Model) × (words ≤ length (now t)) ⌝ }
     ensures { λ r. ⌜ r ≡ allB (countOf Instance) (soundInstance (now (t .entry))) ⌝ }
 {
     let n = count(Kind::Instance);
@@ -91,26 +92,77 @@ fn sound_instances(t: &[u64], live: Live) -> bool
     true
 }
 
+// Models and schema instances.
+fn test_entries(t: &[u64]) -> Tested
+    requires { ⌜ words ≤ length (now t) ⌝ }
+    ensures { λ r. ⌜ r ≡ testedEntries (now (t .entry)) ⌝ }
+{
+    let Tested::Sound(live) = test_labels(t, Kind::Model) else {
+        return Tested::Unsound;
+    };
+    let Tested::Sound(_) = test_labels(t, Kind::SchemaInstance) else {
+        return Tested::Unsound;
+    };
+    if !sound_groups(t, live) {
+        return Tested::Unsound;
+    }
+    Tested::Sound(live)
+}
+
 pub fn sound_table(t: &[u64]) -> bool
     ensures { λ r. ⌜ r ≡ soundTable (now (t .entry)) ⌝ }
 {
     if !is_long(t) {
         return false;
     }
-    if !all_formed(t, Kind::Model) {
+    let Tested::Sound(live) = test_entries(t) else {
         return false;
-    }
-    if !all_distinct(t, Kind::Model) {
-        return false;
-    }
-    let live = live_in(t);
-    if !sound_groups(t, live) {
-        return false;
-    }
-    if !all_distinct(t, Kind::SchemaInstance) {
-        return false;
-    }
+    };
     sound_instances(t, live)
+}
+
+// The words before the first instance are the same.
+fn same_entries(a: &[u64], b: &[u64]) -> bool
+    requires { ⌜ (words ≤ length (now a)) × (words ≤ length (now b)) ⌝ }
+    ensures { λ r. ⌜ r ≡ sameEntries (now (a .entry)) (now (b .entry)) ⌝ }
+{
+    let n = base(Kind::Instance);
+    let mut same = true;
+    let mut i = 0;
+    while i < n {
+        same = same & (a[i] == b[i]);
+        i += 1;
+    }
+    same
+}
+
+// A table beside one whose entries are sound: entries that are the same need no second test.
+fn sound_beside(other: &[u64], live: Live, t: &[u64]) -> bool
+    requires { ⌜ (words ≤ length (now other)) × (words ≤ length (now t)) × (soundEntries (now other) ≡ true) × (live ≡ liveIn (now other) Model) ⌝ }
+    ensures { λ r. ⌜ r ≡ soundTable (now (t .entry)) ⌝ }
+{
+    if same_entries(other, t) {
+        return sound_instances(t, live);
+    }
+    sound_table(t)
+}
+
+fn sound_pair(working: &[u64], kept: &[u64]) -> bool
+    ensures { λ r. ⌜ r ≡ (soundTable (now (working .entry)) && soundTable (now (kept .entry))) ⌝ }
+{
+    if !is_long(working) {
+        return false;
+    }
+    if !is_long(kept) {
+        return false;
+    }
+    let Tested::Sound(live) = test_entries(working) else {
+        return false;
+    };
+    if !sound_instances(working, live) {
+        return false;
+    }
+    sound_beside(working, live, kept)
 }
 
 // "Unless a read-write transaction is open, both tables agree": one of them then tells of both.
@@ -118,7 +170,7 @@ pub fn sound_tables(writing: bool, working: &[u64], kept: &[u64]) -> bool
     ensures { λ r. ⌜ r ≡ soundTables writing (now (working .entry)) (now (kept .entry)) ⌝ }
 {
     if writing {
-        return sound_table(working) & sound_table(kept);
+        return sound_pair(working, kept);
     }
     if !agree(working, kept) {
         return false;

@@ -1,6 +1,6 @@
 // The fields of the words: the label of a model or a schema instance, the header of an instance.
 ghost use mathlib.Core.Path.{_≡_};
-ghost use Rattle.words.specs.Fields.{labelOf, nameIn, repositoryIn, schemaIn, isSchema, isLabel, headerOf, typeIn, modelIn, flagsIn, isHeader, flagged, withFlag, withoutFlag, valueIn, isFree, wellFormed, isNamed};
+ghost use Rattle.words.specs.Fields.{labelOf, nameIn, repositoryIn, schemaIn, isSchema, isLabel, headerOf, typeIn, modelIn, flagsIn, isHeader, flagged, withFlag, withoutFlag, valueIn, isFree, isNamed};
 use crate::layout::Kind;
 use crate::layout::count;
 use crate::sets;
@@ -126,16 +126,6 @@ pub fn is_free(w: u64) -> bool
     ensures { λ r. ⌜ r ≡ isFree w ⌝ }
 {
     w == 0
-}
-
-pub fn is_well_formed(kind: Kind, w: u64) -> bool
-    ensures { λ r. ⌜ r ≡ wellFormed kind w ⌝ }
-{
-    match kind {
-        Kind::Model => is_label(w),
-        Kind::SchemaInstance => is_label(w),
-        Kind::Instance => is_header(w),
-    }
 }
 
 pub fn is_named(w: u64, repository: u32, name: u32) -> bool

@@ -1,10 +1,9 @@
 // Searches over all entries of a kind, the last one included.
 ghost use mathlib.Core.Path.{_≡_};
-ghost use Rattle.words.specs.Entries.{firstFree, formed, allFormed, isTaken};
+ghost use Rattle.words.specs.Entries.{firstFree, isTaken};
 use crate::entries::read;
 use crate::fields::is_free;
 use crate::fields::is_named;
-use crate::fields::is_well_formed;
 use crate::layout::Kind;
 use crate::layout::count;
 
@@ -21,27 +20,6 @@ pub fn first_free(t: &[u64], kind: Kind, from: u32) -> u32
         i += 1;
     }
     i
-}
-
-fn is_formed(kind: Kind, w: u64) -> bool
-    ensures { λ r. ⌜ r ≡ formed kind w ⌝ }
-{
-    is_free(w) | is_well_formed(kind, w)
-}
-
-// Every entry is free or well formed, as far as its first word tells.
-pub fn all_formed(t: &[u64], kind: Kind) -> bool
-    ensures { λ r. ⌜ r ≡ allFormed (now (t .entry)) kind ⌝ }
-{
-    let n = count(kind);
-    let mut i = 0;
-    while i < n {
-        if !is_formed(kind, read(t, kind, i, 0)) {
-            return false;
-        }
-        i += 1;
-    }
-    true
 }
 
 // Some entry has this name in this repository.

@@ -3,27 +3,29 @@ use mathlib.Core.Path.{_≡_, refl, sym, ap, _∙_}
 use mathlib.Core.Bool.{Bool, true, false, cond, not, _&&_, _||_}
 use mathlib.Core.Logic.{⊎-elim}
 use mathlib.Core.List.{List}
-use Prim.Native.Nat.{ℕ, zero, suc, _/_, _%_, _^_, min, _≤_, _<_}
+use Prim.Native.Nat.{ℕ, zero, suc, _/_, _+_, _%_, _^_, min, _≤_, _<_}
 use native.Mathlib.Nat.{eq-or-lt-of-le, le-of-suc-le-suc}
+use native.Mathlib.Numerals.{add-one}
 use native.Mathlib.Omega.{arith}
 use lib.Dec.{eqb}
 use lib.Bits.{bitAnd, and-step, and-shr, and-le-l}
 use borrow.Author.Tests.{eq-eqb, ne-eqb, eqb-true, eqb-false}
+use Rattle.words.specs.declared.layout.Kind.{Kind}
 use Rattle.words.specs.declared.layout.Kind.the-variants.{Model, SchemaInstance}
 use Rattle.words.specs.Layout.{countOf}
-use Rattle.words.specs.Search.{allB}
-use Rattle.words.specs.Sets.{bits, bitOf, has}
+use Rattle.words.specs.Sets.{bits, bitOf, has, insert}
 use Rattle.words.specs.Fields.{schemaIn, typeIn, modelIn, isLabel, isHeader}
 use Rattle.words.specs.Entries.{freeAt}
 use Rattle.words.specs.Laws.Bools.{and-right}
 use Rattle.words.specs.Laws.Decides.{equal, every, restated}
 use Rattle.words.specs.Laws.Sets.{has-none, has-insert, same-members}
-use Rattle.words.specs.Laws.Fields.{Label, label-test, header-test}
+use Rattle.words.specs.Laws.Fields.{Label, label-test, label-is-live, header-test}
 use Rattle.dictionary.specs.Dictionary.{isType, schemaOf}
 use Rattle.dictionary.specs.TypeLaws.{type-schema}
+use Rattle.tables.specs.declared.live.Live.{Live}
 use Rattle.tables.specs.View.{isLive, labelAt, setAt}
-use Rattle.tables.specs.Sound.{mayJoin, soundGroup, soundHeader}
-use Rattle.tables.specs.Live.{isOf, withIf, liveOf, liveIn, ofSchema, within, headerFits}
+use Rattle.tables.specs.Sound.{soundGroup, soundHeader}
+use Rattle.tables.specs.Live.{isOf, withIf, liveOf, liveBelow, liveIn, withLive, ofSchema, within, headerFits}
 use Rattle.tables.specs.Laws.Tests.{itself, implied, same-test, all-same}
 
 -- ---- a set within another
@@ -68,46 +70,62 @@ has-other true s n m l apart = has-insert s n m l ∙ rw (ne-eqb m n apart)
 has-other false s n m l apart = refl
 
 module _ (t : List ℕ) (schema : ℕ) where
-  live-later : (n m : ℕ) → n ≤ bits → n ≤ m → has (liveOf t schema n) m ≡ false
+  live-later : (n m : ℕ) → n ≤ bits → n ≤ m → has (liveOf t Model schema n) m ≡ false
   unfolding liveOf
   live-later zero m h l = has-none m
-  live-later (suc n) m h l = has-other (isOf schema (labelAt t Model n)) (liveOf t schema n) n m (omega arith) (λ e. omega arith) ∙ live-later n m (omega arith) (omega arith)
+  live-later (suc n) m h l = has-other (isOf schema (labelAt t Model n)) (liveOf t Model schema n) n m (omega arith) (λ e. omega arith) ∙ live-later n m (omega arith) (omega arith)
 
-  live-member : (n m : ℕ) → n ≤ bits → m < n → has (liveOf t schema n) m ≡ isOf schema (labelAt t Model m)
+  live-member : (n m : ℕ) → n ≤ bits → m < n → has (liveOf t Model schema n) m ≡ isOf schema (labelAt t Model m)
   unfolding liveOf
   live-member zero m h l = absurd (omega arith)
   live-member (suc n) m h l =
-      ⊎-elim (λ e. rw e (has-own (isOf schema (labelAt t Model n)) (liveOf t schema n) n (omega arith) (live-later n n (omega arith) (omega arith))))
-      (λ k. has-other (isOf schema (labelAt t Model n)) (liveOf t schema n) n m (omega arith) (λ e. omega arith) ∙ live-member n m (omega arith) k)
+      ⊎-elim (λ e. rw e (has-own (isOf schema (labelAt t Model n)) (liveOf t Model schema n) n (omega arith) (live-later n n (omega arith) (omega arith))))
+      (λ k. has-other (isOf schema (labelAt t Model n)) (liveOf t Model schema n) n m (omega arith) (λ e. omega arith) ∙ live-member n m (omega arith) k)
       (eq-or-lt-of-le (le-of-suc-le-suc l))
 
   -- both schemas
-  pub live-of-schema : 1 ≤ schema → schema ≤ 2 → (m : ℕ) → m < bits → has (ofSchema (liveIn t) schema) m ≡ isOf schema (labelAt t Model m)
+  pub live-of-schema : 1 ≤ schema → schema ≤ 2 → (m : ℕ) → m < bits → has (ofSchema (liveIn t Model) schema) m ≡ isOf schema (labelAt t Model m)
   live-of-schema l h m k = told (eqb schema 1) refl
     where
-      told : (b : Bool) → eqb schema 1 ≡ b → has (cond b (liveOf t 1 (countOf Model)) (liveOf t 2 (countOf Model))) m ≡ isOf schema (labelAt t Model m)
-      told true e = ap (λ (x : ℕ). has (liveOf t x (countOf Model)) m) (sym (eqb-true schema 1 e)) ∙ live-member (countOf Model) m (omega arith) k
+      told : (b : Bool) → eqb schema 1 ≡ b → has (cond b (liveOf t Model 1 (countOf Model)) (liveOf t Model 2 (countOf Model))) m ≡ isOf schema (labelAt t Model m)
+      told true e = ap (λ (x : ℕ). has (liveOf t Model x (countOf Model)) m) (sym (eqb-true schema 1 e)) ∙ live-member (countOf Model) m (omega arith) k
       told false e =
           let n : schema ≡ 1 → ⊥ = eqb-false schema 1 e in
           let two : 2 ≡ schema = omega arith in
-          ap (λ (x : ℕ). has (liveOf t x (countOf Model)) m) two ∙ live-member (countOf Model) m (omega arith) k
+          ap (λ (x : ℕ). has (liveOf t Model x (countOf Model)) m) two ∙ live-member (countOf Model) m (omega arith) k
+
+-- ---- one entry more
+
+module _ (t : List ℕ) (kind : Kind) (i : ℕ) where
+  pub live-free : freeAt t kind i ≡ true → liveBelow t kind i ≡ liveBelow t kind (i + 1)
+  unfolding liveOf
+  live-free e = rw (add-one, e)
+
+  pub live-more : Label (labelAt t kind i) → withLive (liveBelow t kind i) (schemaIn (labelAt t kind i)) i ≡ liveBelow t kind (i + 1)
+  unfolding liveOf
+  live-more w = rw (add-one, label-is-live (labelAt t kind i) w) (told (eqb (schemaIn (labelAt t kind i)) 1) refl)
+    where
+      told : (b : Bool) → eqb (schemaIn (labelAt t kind i)) 1 ≡ b → _≡_ {A = Live} (cond b (record { first = insert (liveOf t kind 1 i) i; second = liveOf t kind 2 i }) (record { first = liveOf t kind 1 i; second = insert (liveOf t kind 2 i) i })) (record { first = withIf b (liveOf t kind 1 i) i; second = withIf (eqb (schemaIn (labelAt t kind i)) 2) (liveOf t kind 2 i) i })
+      told true e =
+          let one : schemaIn (labelAt t kind i) ≡ 1 = eqb-true (schemaIn (labelAt t kind i)) 1 e in
+          rw (one)
+      told false e =
+          let n : schemaIn (labelAt t kind i) ≡ 1 → ⊥ = eqb-false (schemaIn (labelAt t kind i)) 1 e in
+          let two : schemaIn (labelAt t kind i) ≡ 2 = omega arith in
+          rw (two)
 
 -- ---- the tests of a group and of a header
 
-pub group-by-sets : (t : List ℕ) (s : ℕ) → freeAt t SchemaInstance s ≡ false → (isLabel (labelAt t SchemaInstance s) && within (setAt t s) (ofSchema (liveIn t) (schemaIn (labelAt t SchemaInstance s)))) ≡ soundGroup t s
+pub group-by-sets : (t : List ℕ) (s : ℕ) → freeAt t SchemaInstance s ≡ false → isLabel (labelAt t SchemaInstance s) ≡ true → within (setAt t s) (ofSchema (liveIn t Model) (schemaIn (labelAt t SchemaInstance s))) ≡ soundGroup t s
 unfolding soundGroup
-group-by-sets t s live = rw live (told (isLabel (labelAt t SchemaInstance s)) refl)
-  where
-    told : (b : Bool) → isLabel (labelAt t SchemaInstance s) ≡ b → (b && within (setAt t s) (ofSchema (liveIn t) (schemaIn (labelAt t SchemaInstance s)))) ≡ (b && allB bits (λ m. not (has (setAt t s) m) || mayJoin t s m))
-    told false e = refl
-    told true e =
-        let w : Label (labelAt t SchemaInstance s) = label-test (labelAt t SchemaInstance s) .holds e in
-        all-same bits _ _ (λ m l. ap (λ (b : Bool). not (has (setAt t s) m) || b) (live-of-schema t (schemaIn (labelAt t SchemaInstance s)) (w .schema-from) (w .schema-to) m l))
+group-by-sets t s live e =
+    let w : Label (labelAt t SchemaInstance s) = label-test (labelAt t SchemaInstance s) .holds e in
+    rw (live, e) (all-same bits _ _ (λ m l. ap (λ (b : Bool). not (has (setAt t s) m) || b) (live-of-schema t (schemaIn (labelAt t SchemaInstance s)) (w .schema-from) (w .schema-to) m l)))
 
-pub header-by-sets : (t : List ℕ) (h : ℕ) → headerFits (liveIn t) h ≡ soundHeader t h
+pub header-by-sets : (t : List ℕ) (h : ℕ) → headerFits (liveIn t Model) h ≡ soundHeader t h
 header-by-sets t h = told (isHeader h) refl (isType (typeIn h)) refl
   where
-    told : (a : Bool) → isHeader h ≡ a → (b : Bool) → isType (typeIn h) ≡ b → (a && b && has (ofSchema (liveIn t) (schemaOf (typeIn h))) (modelIn h)) ≡ (a && b && isLive t Model (modelIn h) && eqb (schemaIn (labelAt t Model (modelIn h))) (schemaOf (typeIn h)))
+    told : (a : Bool) → isHeader h ≡ a → (b : Bool) → isType (typeIn h) ≡ b → (a && b && has (ofSchema (liveIn t Model) (schemaOf (typeIn h))) (modelIn h)) ≡ (a && b && isLive t Model (modelIn h) && eqb (schemaIn (labelAt t Model (modelIn h))) (schemaOf (typeIn h)))
     told false p b q = refl
     told true p false q = refl
     told true p true q = live-of-schema t (schemaOf (typeIn h)) (type-schema (typeIn h) q .0) (type-schema (typeIn h) q .1) (modelIn h) (header-test h .holds p .model)

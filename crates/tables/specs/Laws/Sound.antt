@@ -63,17 +63,19 @@ sound-header-test t h =
 
 -- ---- tables that agree in the words in use are alike sound
 
+-- what names and sets ask of the words of their kinds alone
+module _ (a b : List ℕ) where
+  pub distinct-alike : (kind : Kind) → ((i k : ℕ) → wordOf a kind i k ≡ wordOf b kind i k) → distinct a kind ≡ distinct b kind
+  unfolding distinct
+  distinct-alike kind same = simp same
+
+  pub group-alike : ((i k : ℕ) → wordOf a Model i k ≡ wordOf b Model i k) → ((i k : ℕ) → wordOf a SchemaInstance i k ≡ wordOf b SchemaInstance i k) → (s : ℕ) → soundGroup a s ≡ soundGroup b s
+  unfolding soundGroup
+  group-alike models groups s = simp (models, groups)
+
 module _ (a b : List ℕ) (agreeing : Agreeing a b) where
   same : (kind : Kind) (i k : ℕ) → wordOf a kind i k ≡ wordOf b kind i k
   same = agree-entries a b agreeing
-
-  distinct-alike : (kind : Kind) → distinct a kind ≡ distinct b kind
-  unfolding distinct
-  distinct-alike kind = simp same
-
-  group-alike : (s : ℕ) → soundGroup a s ≡ soundGroup b s
-  unfolding soundGroup
-  group-alike s = simp same
 
   value-alike : (attribute : Attribute) (set : Bool) (v : ℕ) → soundValue a attribute set v ≡ soundValue b attribute set v
   value-alike Lacking set v = refl
@@ -86,7 +88,7 @@ module _ (a b : List ℕ) (agreeing : Agreeing a b) where
 
   pub sound-alike : soundTable a ≡ soundTable b
   unfolding soundTable
-  sound-alike = rw (le-leb words (length a) (agreeing .left), le-leb words (length b) (agreeing .right)) (rw (all-same (countOf SchemaInstance) (soundGroup a) (soundGroup b) (λ s l. group-alike s), all-same (countOf Instance) (soundInstance a) (soundInstance b) (λ i l. instance-alike i)) (simp (same, distinct-alike)))
+  sound-alike = rw (le-leb words (length a) (agreeing .left), le-leb words (length b) (agreeing .right)) (rw (all-same (countOf SchemaInstance) (soundGroup a) (soundGroup b) (λ s l. group-alike a b (same Model) (same SchemaInstance) s), all-same (countOf Instance) (soundInstance a) (soundInstance b) (λ i l. instance-alike i)) (rw (distinct-alike a b Model (same Model), distinct-alike a b SchemaInstance (same SchemaInstance)) (simp same)))
 
 -- while writing both tables are looked at; else agreement and one of them tell
 module _ (working kept : List ℕ) where

@@ -10,7 +10,7 @@ use lib.Dec.{eqb, ltb}
 use lib.ListN.{length, getD}
 use lib.Pow.{pow-mono, pow-pos}
 use borrow.Author.Tests.{eq-eqb, ne-eqb, eqb-true, lt-ltb}
-use Rattle.words.specs.declared.layout.Kind.the-variants.{Instance}
+use Rattle.words.specs.declared.layout.Kind.the-variants.{Model, Instance}
 use Rattle.words.specs.Layout.{countOf, placeOf}
 use Rattle.words.specs.Search.{allB}
 use Rattle.words.specs.Sets.{bitOf, has}
@@ -116,7 +116,7 @@ module _ (t : List ℕ) (i : ℕ) (within : i < countOf Instance) where
   parts e =
       rw (flags-parts header-word (sound-header-test t header-word .holds e .header)) (all-both values _ _ ∙ all-same values _ _ (λ k l. rw (value-there k l) (sym (value-parts t (attributeOf (typeIn header-word) k) (flagged header-word k) (getD t (placeOf Instance i + (1 + k)) 0)))))
 
-  pub live-by-parts : (getD t (placeOf Instance i) 0 ≡ 0 → ⊥) → (headerFits (liveIn t) header-word && (flagsFit header-word && valuesFit t (placeOf Instance i) header-word)) ≡ soundInstance t i
+  pub live-by-parts : (getD t (placeOf Instance i) 0 ≡ 0 → ⊥) → (headerFits (liveIn t Model) header-word && (flagsFit header-word && valuesFit t (placeOf Instance i) header-word)) ≡ soundInstance t i
   unfolding soundInstance
   live-by-parts live = rw (header-there, ne-eqb header-word 0 live, header-by-sets t header-word) (told (soundHeader t header-word) refl)
     where

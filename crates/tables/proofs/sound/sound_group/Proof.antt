@@ -1,6 +1,9 @@
 -- A free entry's set is empty. A live one's is held to the models of its label's schema, which is what `group-by-sets` says.
-use mathlib.Core.Path.{sym, ap, _∙_}
+use mathlib.Core.Path.{_≡_, sym, ap, _∙_}
+use mathlib.Core.Bool.{false}
+use Rattle.words.specs.declared.layout.Kind.the-variants.{SchemaInstance}
 use Rattle.words.specs.Fields.{isFree}
+use Rattle.words.specs.Entries.{freeAt}
 use Rattle.tables.specs.Sound.{soundGroup}
 use Rattle.tables.specs.Laws.Live.{group-by-sets}
 use borrow.Author.Needs.{needs}
@@ -23,9 +26,6 @@ returns : tie.Need-returns
 unfolding soundGroup
 returns c = rw (sym (ap isFree (c .before .before .before .before .label-at .ensures)) ∙ sym (c .before .before .is-free .ensures) ∙ c .before .if1 .taken, c .is-empty .ensures, c .before .before .before .set-at .ensures)
 
-is-label-requires : tie.Need-is-label-requires
-is-label-requires c κs = search needs
-
 schema-in-requires : tie.Need-schema-in-requires
 schema-in-requires c κs = search needs
 
@@ -36,7 +36,8 @@ is-within-requires : tie.Need-is-within-requires
 is-within-requires c κs = search needs
 
 returns-2 : tie.Need-returns-2
-returns-2 c = rw (c .before .before .before .is-label .ensures, c .is-within .ensures, c .before .of-schema .ensures, c .before .before .schema-in .ensures, c .before .before .before .before .before .before .before .before .before .pre, c .before .before .before .before .before .before .before .label-at .ensures, c .before .before .before .before .before .before .set-at .ensures) (group-by-sets (c .before .before .before .before .before .before .before .before .before .args .t .now) (c .before .before .before .before .before .before .before .before .before .args .s) (sym (ap isFree (c .before .before .before .before .before .before .before .label-at .ensures)) ∙ sym (c .before .before .before .before .before .is-free .ensures) ∙ c .before .before .before .before .if1 .left))
+returns-2 c = let live : freeAt (c .before .before .before .before .before .before .before .before .args .t .now) SchemaInstance (c .before .before .before .before .before .before .before .before .args .s) ≡ false = sym (ap isFree (c .before .before .before .before .before .before .label-at .ensures)) ∙ sym (c .before .before .before .before .is-free .ensures) ∙ c .before .before .before .if1 .left in
+    rw (c .is-within .ensures, c .before .of-schema .ensures, c .before .before .schema-in .ensures, c .before .before .before .before .before .before .before .before .pre .0, c .before .before .before .before .before .before .label-at .ensures, c .before .before .before .before .before .set-at .ensures) (group-by-sets (c .before .before .before .before .before .before .before .before .args .t .now) (c .before .before .before .before .before .before .before .before .args .s) live (rw live at (c .before .before .before .before .before .before .before .before .pre .1)))
 
 pub sound-group-spec : {M : Type 1} → statement M
 sound-group-spec =
@@ -47,7 +48,6 @@ sound-group-spec =
     is-free-requires
     is-empty-requires
     returns
-    is-label-requires
     schema-in-requires
     of-schema-requires
     is-within-requires

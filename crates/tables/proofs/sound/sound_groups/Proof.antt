@@ -8,8 +8,10 @@ use borrow.Author.Tests.{not-true, not-false}
 use Rattle.words.specs.declared.layout.Kind.the-variants.{SchemaInstance}
 use Rattle.words.specs.Layout.{countOf}
 use Rattle.words.specs.Search.{allB}
-use Rattle.words.specs.Laws.Search.{all-more, all-stop, all-done}
+use Rattle.words.specs.Laws.Bools.{and-left}
+use Rattle.words.specs.Laws.Search.{all-more, all-at, all-stop, all-done}
 use Rattle.tables.specs.Sound.{soundGroup}
+use Rattle.tables.specs.Labels.{labelled}
 use Rattle.tables.proofs.sound.sound_groups.Statement.{statement}
 use Rattle.tables.proofs.sound.sound_groups.Tie as tie
 
@@ -27,7 +29,7 @@ unfolding allB
 loop-holds c = (omega arith, c .count .ensures, refl)
 
 sound-group-requires : tie.Need-sound-group-requires Inv-loop μ-loop
-sound-group-requires c κs = c .before .before .before .before .pre
+sound-group-requires c κs = (c .before .before .before .before .pre .0, all-at (countOf SchemaInstance) (labelled (c .before .before .before .before .args .t .now) SchemaInstance) (and-left (allB (countOf SchemaInstance) (labelled (c .before .before .before .before .args .t .now) SchemaInstance)) _ (c .before .before .before .before .pre .1)) (c .before .loop .s) (omega arith))
 
 returns : tie.Need-returns Inv-loop μ-loop
 returns c = sym (all-stop (countOf SchemaInstance) (soundGroup (c .before .before .before .before .before .before .args .t .now)) (c .before .before .before .loop .s) (omega arith) (sym (c .before .sound-group .ensures) ∙ not-true _ (c .if1 .taken)))

@@ -1,57 +1,47 @@
--- The tests are the definition's in its order: the first that fails decides, and the last one is the answer.
-use mathlib.Core.Path.{sym, _∙_}
-use borrow.Author.Tests.{not-true, not-false, leb-true}
-use Rattle.words.specs.Layout.{words}
+-- A table is sound by its length, its entries and its instances: the first that fails decides.
+use Rattle.tables.specs.Live.{liveIn}
+use Rattle.tables.specs.Labels.{soundEntries}
+use mathlib.Core.Path.{_≡_, sym, _∙_}
+use mathlib.Core.Bool.{true}
+use Prim.Native.Nat.{_≤_}
 use lib.ListN.{length}
-use Rattle.tables.specs.Sound.{soundTable}
+use borrow.Author.Tests.{not-true, not-false, leb-true}
+use Rattle.words.specs.declared.layout.Kind.the-variants.{Model}
+use Rattle.words.specs.Layout.{words}
+use Rattle.tables.specs.Laws.Labels.{sound-told, unsound-told, short-unsound, entries-unsound, sound-by-instances}
 use borrow.Author.Needs.{needs}
 use Rattle.tables.proofs.sound.sound_table.Statement.{statement}
 use Rattle.tables.proofs.sound.sound_table.Tie as tie
+
+long : (c : tie.Else1) → words ≤ length (c .before .before .before .args .t .now)
+long c = leb-true words (length (c .before .before .before .args .t .now)) (sym (c .before .is-long .ensures) ∙ not-false _ (c .if1 .left))
+
+entries : (c : tie.After-live) → (soundEntries (c .before .before .before .before .before .before .args .t .now) ≡ true) × (c .live .given .0 .0 ≡ liveIn (c .before .before .before .before .before .before .args .t .now) Model)
+entries c = sound-told _ _ _ (sym (c .live .given .1) ∙ c .before .before .test-entries .ensures)
 
 is-long-requires : tie.Need-is-long-requires
 is-long-requires c κs = search needs
 
 returns : tie.Need-returns
-unfolding soundTable
-returns c = rw (sym (c .before .is-long .ensures) ∙ not-true _ (c .if1 .taken))
+returns c = sym (short-unsound (c .before .before .before .args .t .now) (sym (c .before .is-long .ensures) ∙ not-true _ (c .if1 .taken)))
 
-all-formed-requires : tie.Need-all-formed-requires
-all-formed-requires c κs = search needs
+test-entries-requires : tie.Need-test-entries-requires
+test-entries-requires c κs = long (c)
+
+enum-known-live : tie.Need-enum-known-live
+enum-known-live c = search needs
+
+enum-told : tie.Need-enum-told
+enum-told c = search needs
 
 returns-2 : tie.Need-returns-2
-unfolding soundTable
-returns-2 c = rw (sym (c .before .before .before .is-long .ensures) ∙ not-false _ (c .before .before .if1 .left), sym (c .before .all-formed .ensures) ∙ not-true _ (c .if2 .taken))
-
-all-distinct-requires : tie.Need-all-distinct-requires
-all-distinct-requires c κs = search needs
-
-returns-3 : tie.Need-returns-3
-unfolding soundTable
-returns-3 c = rw (sym (c .before .before .before .before .before .is-long .ensures) ∙ not-false _ (c .before .before .before .before .if1 .left), sym (c .before .before .before .all-formed .ensures) ∙ not-false _ (c .before .before .if2 .left), sym (c .before .all-distinct .ensures) ∙ not-true _ (c .if3 .taken))
-
-live-in-requires : tie.Need-live-in-requires
-live-in-requires c κs = search needs
-
-sound-groups-requires : tie.Need-sound-groups-requires
-sound-groups-requires c κs = search needs
-
-returns-4 : tie.Need-returns-4
-unfolding soundTable
-returns-4 c = rw (sym (c .before .before .before .before .before .before .before .before .is-long .ensures) ∙ not-false _ (c .before .before .before .before .before .before .before .if1 .left), sym (c .before .before .before .before .before .before .all-formed .ensures) ∙ not-false _ (c .before .before .before .before .before .if2 .left), sym (c .before .before .before .before .all-distinct .ensures) ∙ not-false _ (c .before .before .before .if3 .left), sym (c .before .sound-groups .ensures) ∙ not-true _ (c .if4 .taken))
-
-all-distinct-requires-2 : tie.Need-all-distinct-requires-2
-all-distinct-requires-2 c κs = search needs
-
-returns-5 : tie.Need-returns-5
-unfolding soundTable
-returns-5 c = rw (sym (c .before .before .before .before .before .before .before .before .before .before .is-long .ensures) ∙ not-false _ (c .before .before .before .before .before .before .before .before .before .if1 .left), sym (c .before .before .before .before .before .before .before .before .all-formed .ensures) ∙ not-false _ (c .before .before .before .before .before .before .before .if2 .left), sym (c .before .before .before .before .before .before .all-distinct .ensures) ∙ not-false _ (c .before .before .before .before .before .if3 .left), sym (c .before .before .before .sound-groups .ensures) ∙ not-false _ (c .before .before .if4 .left), sym (c .before .all-distinct2 .ensures) ∙ not-true _ (c .if5 .taken))
+returns-2 c = sym (entries-unsound (c .before .before .before .before .before .before .args .t .now) (unsound-told _ _ (sym (c .enum-told .given .1) ∙ c .before .before .test-entries .ensures)))
 
 sound-instances-requires : tie.Need-sound-instances-requires
-sound-instances-requires c κs = (c .before .before .before .before .live-in .ensures, leb-true words (length (c .before .before .before .before .before .before .before .before .before .before .before .before .args .t .now)) (sym (c .before .before .before .before .before .before .before .before .before .before .is-long .ensures) ∙ not-false _ (c .before .before .before .before .before .before .before .before .before .if1 .left)))
+sound-instances-requires c κs = (entries (c .before) .1, long (c .before .before .before .before))
 
-returns-6 : tie.Need-returns-6
-unfolding soundTable
-returns-6 c = rw (sym (c .before .before .before .before .before .before .before .before .before .before .before .is-long .ensures) ∙ not-false _ (c .before .before .before .before .before .before .before .before .before .before .if1 .left), sym (c .before .before .before .before .before .before .before .before .before .all-formed .ensures) ∙ not-false _ (c .before .before .before .before .before .before .before .before .if2 .left), sym (c .before .before .before .before .before .before .before .all-distinct .ensures) ∙ not-false _ (c .before .before .before .before .before .before .if3 .left), sym (c .before .before .before .before .sound-groups .ensures) ∙ not-false _ (c .before .before .before .if4 .left), sym (c .before .before .all-distinct2 .ensures) ∙ not-false _ (c .before .if5 .left)) (c .sound-instances .ensures)
+returns-3 : tie.Need-returns-3
+returns-3 c = c .sound-instances .ensures ∙ sound-by-instances (c .before .before .before .before .before .before .before .before .args .t .now) (long (c .before .before .before .before .before)) (entries (c .before .before) .0)
 
 pub sound-table-spec : {M : Type 1} → statement M
 sound-table-spec =
@@ -59,14 +49,9 @@ sound-table-spec =
     (tie.spec
     is-long-requires
     returns
-    all-formed-requires
+    test-entries-requires
+    enum-known-live
+    enum-told
     returns-2
-    all-distinct-requires
-    returns-3
-    live-in-requires
-    sound-groups-requires
-    returns-4
-    all-distinct-requires-2
-    returns-5
     sound-instances-requires
-    returns-6)
+    returns-3)

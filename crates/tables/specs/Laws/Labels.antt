@@ -1,0 +1,179 @@
+-- Models and schema instances: what a pass over the labels keeps, and that the words before the first instance decide all that is asked of them.
+use mathlib.Core.Path.{_≡_, refl, ap, _∙_}
+use mathlib.Core.Bool.{Bool, true, false, cond, _&&_, _||_, not, and-true}
+use mathlib.Core.List.{List}
+use Prim.Native.Nat.{ℕ, zero, suc, _+_, _≤_, _<_}
+use native.Mathlib.Nat.{add-zero}
+use native.Mathlib.Omega.{arith}
+use lib.Dec.{eqb}
+use borrow.Author.Tests.{le-leb}
+use lib.ListN.{length, getD, set, length-set}
+use Rattle.words.specs.declared.layout.Kind.{Kind}
+use Rattle.words.specs.declared.layout.Kind.the-variants.{Model, SchemaInstance, Instance}
+use Rattle.words.specs.Layout.{words, baseOf, strideOf, countOf, placeOf}
+use Rattle.words.specs.Search.{allB}
+use Rattle.words.specs.Sets.{none, bits, has}
+use Rattle.words.specs.Fields.{schemaIn, isLabel}
+use Rattle.words.specs.Entries.{inEntry, wordOf, freeAt}
+use Rattle.words.specs.Copies.{isLong, sameAt}
+use Rattle.words.specs.Laws.Bools.{and-left, and-ended, or-right}
+use Rattle.words.specs.Laws.Decides.{equal, every}
+use Rattle.words.specs.Laws.Search.{all-more, all-at, all-from, all-stop, all-done}
+use Rattle.words.specs.Laws.Layout.{stride-positive}
+use Rattle.words.specs.Laws.Fields.{label-test}
+use Rattle.words.specs.Laws.Entries.{entry-test}
+use Rattle.tables.specs.declared.live.Live.{Live}
+use Rattle.tables.specs.declared.labels.Tested.the-variants.{Sound, Unsound}
+use Rattle.tables.specs.View.{labelAt, setAt}
+use Rattle.tables.specs.Sound.{distinct, mayJoin, soundGroup, soundInstance, soundTable}
+use Rattle.tables.specs.Names.{isNew, buckets, bucketOf}
+use Rattle.tables.specs.Live.{liveOf, liveBelow, liveIn, noLive, withLive}
+use Rattle.tables.specs.Labels.{labelled, soundLabels, tested, testedLabels, soundEntries, sameEntries}
+use Rattle.tables.specs.Laws.Tests.{all-same}
+use Rattle.tables.specs.Laws.Sound.{distinct-alike, group-alike}
+use Rattle.tables.specs.Laws.Names.{free-is-new, Filled, filled-free, filled-more}
+use Rattle.tables.specs.Laws.Live.{live-free, live-more}
+
+-- ---- the pass
+
+-- where the first word of an entry stands, and the next entry's
+pub first-word : (t : List ℕ) (kind : Kind) (i : ℕ) → i < countOf kind → labelAt t kind i ≡ getD t (placeOf kind i) 0
+first-word t kind i l = rw (entry-test kind i 0 .passes (l, stride-positive kind), add-zero)
+
+pub first-place : (kind : Kind) → baseOf kind ≡ placeOf kind 0
+first-place Model = refl
+first-place SchemaInstance = refl
+first-place Instance = refl
+
+pub next-place : (kind : Kind) (i : ℕ) → placeOf kind i + strideOf kind ≡ placeOf kind (i + 1)
+next-place Model i = omega arith
+next-place SchemaInstance i = omega arith
+next-place Instance i = omega arith
+
+-- after i entries
+pub record Passed (t : List ℕ) (kind : Kind) (filled : List ℕ) (live : Live) (i : ℕ) : Type 0 where
+  pub labels : allB i (labelled t kind) ≡ true
+  pub names : allB i (isNew t kind) ≡ true
+  pub size : length filled ≡ buckets
+  pub fallen : Filled t kind filled i
+  pub sets : live ≡ liveBelow t kind i
+
+module _ (t : List ℕ) (kind : Kind) where
+  pub none-passed : (filled : List ℕ) → length filled ≡ buckets → Passed t kind filled noLive 0
+  unfolding allB liveOf
+  none-passed filled n = record { labels = refl; names = refl; size = n; fallen = λ j l live. absurd (omega arith); sets = refl }
+
+  module _ (filled : List ℕ) (live : Live) (i : ℕ) (passed : Passed t kind filled live i) where
+    pub free-passed : freeAt t kind i ≡ true → Passed t kind filled live (i + 1)
+    free-passed free = record {
+      labels = all-more (labelled t kind) i (passed .labels) (rw free);
+      names = all-more (isNew t kind) i (passed .names) (free-is-new t kind i free);
+      size = passed .size;
+      fallen = filled-free t kind filled i free (passed .fallen);
+      sets = passed .sets ∙ live-free t kind i free;
+    }
+
+    pub label-passed : (w : ℕ) → labelAt t kind i ≡ w → isLabel w ≡ true → isNew t kind i ≡ true → Passed t kind (set filled (bucketOf w) 1) (withLive live (schemaIn w) i) (i + 1)
+    label-passed w here label new =
+        let passes : isLabel (labelAt t kind i) ≡ true = rw here label in
+        rw (← here) record {
+          labels = all-more (labelled t kind) i (passed .labels) (or-right (freeAt t kind i) (isLabel (labelAt t kind i)) passes);
+          names = all-more (isNew t kind) i (passed .names) new;
+          size = length-set filled (bucketOf (labelAt t kind i)) 1 ∙ passed .size;
+          fallen = filled-more t kind filled i (passed .size) (passed .fallen);
+          sets = ap (λ (l : Live). withLive l (schemaIn (labelAt t kind i)) i) (passed .sets) ∙ live-more t kind i (label-test (labelAt t kind i) .holds passes);
+        }
+
+    -- the last one included
+    pub all-passed : i ≡ countOf kind → Sound live ≡ testedLabels t kind
+    unfolding distinct
+    all-passed e =
+        let labels : allB (countOf kind) (labelled t kind) ≡ true = all-done (labelled t kind) (countOf kind) i (omega arith) (omega arith) (passed .labels) in
+        let names : allB (countOf kind) (isNew t kind) ≡ true = all-done (isNew t kind) (countOf kind) i (omega arith) (omega arith) (passed .names) in
+        rw (labels, names) (ap Sound (passed .sets ∙ ap (liveBelow t kind) e))
+
+  module _ (i : ℕ) (l : i < countOf kind) where
+    pub no-label : freeAt t kind i ≡ false → isLabel (labelAt t kind i) ≡ false → Unsound ≡ testedLabels t kind
+    no-label live e = rw (all-stop (countOf kind) (labelled t kind) i l (rw (live, e)))
+
+    pub not-new : isNew t kind i ≡ false → Unsound ≡ testedLabels t kind
+    unfolding distinct
+    not-new e = rw (and-ended (allB (countOf kind) (labelled t kind)) (allB (countOf kind) (isNew t kind)) (all-stop (countOf kind) (isNew t kind) i l e))
+
+-- ---- what an answer tells
+
+pub sound-told : (b : Bool) (live all : Live) → Sound live ≡ tested b all → (b ≡ true) × (live ≡ all)
+sound-told true live all e = (refl, cc)
+sound-told false live all e = absurd (let z : _≡_ {A = ℕ} 0 1 = cc in omega arith)
+
+pub unsound-told : (b : Bool) (all : Live) → Unsound ≡ tested b all → b ≡ false
+unsound-told true all e = absurd (let z : _≡_ {A = ℕ} 0 1 = cc in omega arith)
+unsound-told false all e = refl
+
+-- ---- a table is sound by its entries and its instances
+
+-- a group that is sound has a label
+group-labelled : (t : List ℕ) (s : ℕ) → soundGroup t s ≡ true → labelled t SchemaInstance s ≡ true
+unfolding soundGroup
+group-labelled t s h = told (freeAt t SchemaInstance s) h
+  where
+    told : (b : Bool) → cond b (eqb (setAt t s) none) (isLabel (labelAt t SchemaInstance s) && allB bits (λ m. not (has (setAt t s) m) || mayJoin t s m)) ≡ true → (b || isLabel (labelAt t SchemaInstance s)) ≡ true
+    told true e = refl
+    told false e = and-left (isLabel (labelAt t SchemaInstance s)) _ e
+
+regrouped : (l a b g d f i : Bool) → (g ≡ true → f ≡ true) → (l && a && b && g && d && i) ≡ (l && (a && b && (f && d) && g) && i)
+regrouped false a b g d f i h = refl
+regrouped true false b g d f i h = refl
+regrouped true true false g d f i h = refl
+regrouped true true true false d f i h = rw (and-ended (f && d) false refl)
+regrouped true true true true d f i h = rw (h refl, and-true d)
+
+table-parts : (t : List ℕ) → soundTable t ≡ (isLong t && soundEntries t && allB (countOf Instance) (soundInstance t))
+unfolding soundTable
+table-parts t = regrouped (isLong t) _ _ _ (distinct t SchemaInstance) (allB (countOf SchemaInstance) (labelled t SchemaInstance)) _ (λ h. all-from (countOf SchemaInstance) (labelled t SchemaInstance) (λ s l. group-labelled t s (all-at (countOf SchemaInstance) (soundGroup t) h s l)))
+
+module _ (t : List ℕ) where
+  pub short-unsound : isLong t ≡ false → soundTable t ≡ false
+  short-unsound e = table-parts t ∙ rw (e)
+
+  pub entries-unsound : soundEntries t ≡ false → soundTable t ≡ false
+  entries-unsound e = table-parts t ∙ rw (and-ended (isLong t) (soundEntries t) e)
+
+  pub instances-unsound : allB (countOf Instance) (soundInstance t) ≡ false → soundTable t ≡ false
+  instances-unsound e = table-parts t ∙ and-ended (isLong t && soundEntries t) (allB (countOf Instance) (soundInstance t)) e
+
+  pub sound-by-instances : words ≤ length t → soundEntries t ≡ true → allB (countOf Instance) (soundInstance t) ≡ soundTable t
+  sound-by-instances long e = rw (table-parts t, le-leb words (length t) long, e)
+
+-- ---- tables that are the same before the first instance
+
+module _ (a b : List ℕ) (same : sameEntries a b ≡ true) where
+  alike : (j : ℕ) → j < baseOf Instance → getD a j 0 ≡ getD b j 0
+  alike = every (baseOf Instance) (sameAt a b) (λ j. getD a j 0 ≡ getD b j 0) (λ j. equal (getD a j 0) (getD b j 0)) .holds same
+
+  entry-alike : (kind : Kind) → ((i k : ℕ) → i < countOf kind → k < strideOf kind → placeOf kind i + k < baseOf Instance) → (i k : ℕ) → wordOf a kind i k ≡ wordOf b kind i k
+  entry-alike kind early i k = told (inEntry kind i k) refl
+    where
+      told : (c : Bool) → inEntry kind i k ≡ c → cond c (getD a (placeOf kind i + k) 0) 0 ≡ cond c (getD b (placeOf kind i + k) 0) 0
+      told false e = refl
+      told true e = alike (placeOf kind i + k) (early i k (entry-test kind i k .holds e .0) (entry-test kind i k .holds e .1))
+
+  model-alike : (i k : ℕ) → wordOf a Model i k ≡ wordOf b Model i k
+  model-alike = entry-alike Model (λ i k hi hk. omega arith)
+
+  set-alike : (i k : ℕ) → wordOf a SchemaInstance i k ≡ wordOf b SchemaInstance i k
+  set-alike = entry-alike SchemaInstance (λ i k hi hk. omega arith)
+
+  live-of-alike : (schema n : ℕ) → liveOf a Model schema n ≡ liveOf b Model schema n
+  unfolding liveOf
+  live-of-alike schema zero = refl
+  live-of-alike schema (suc n) = rw (model-alike n 0, live-of-alike schema n)
+
+  pub live-alike : liveIn a Model ≡ liveIn b Model
+  live-alike = rw (live-of-alike 1 (countOf Model), live-of-alike 2 (countOf Model))
+
+  labels-alike : (kind : Kind) → ((i k : ℕ) → wordOf a kind i k ≡ wordOf b kind i k) → soundLabels a kind ≡ soundLabels b kind
+  labels-alike kind words-alike = rw (distinct-alike a b kind words-alike, all-same (countOf kind) (labelled a kind) (labelled b kind) (λ i l. rw (words-alike i 0)))
+
+  pub entries-alike : soundEntries a ≡ soundEntries b
+  entries-alike = rw (labels-alike Model model-alike, labels-alike SchemaInstance set-alike, all-same (countOf SchemaInstance) (soundGroup a) (soundGroup b) (λ s l. group-alike a b model-alike set-alike s))
