@@ -1,6 +1,6 @@
 -- References: the one that may be set, instances that have none, and what holds a deletion back.
 use mathlib.Core.Path.{_≡_, refl, sym, ap, _∙_}
-use mathlib.Core.Bool.{Bool, true, false, cond, not, _&&_}
+use mathlib.Core.Bool.{Bool, true, false, cond, not, _&&_, and-false}
 use mathlib.Core.List.{List}
 use Prim.Native.Nat.{ℕ, _≤_, _<_}
 use native.Mathlib.Decide.{decLt, ℕ-discrete}
@@ -77,7 +77,7 @@ module _ (t : List ℕ) (gone : ℕ → Bool) (i : ℕ) where
 
 module _ (t : List ℕ) (gone : ℕ → Bool) (access i : ℕ) where
   pub bare-holds : pointerIn (headerAt t i) ≡ values → holdsBack t gone access i ≡ false
-  bare-holds e = and-ended (isLive t Instance i && not (gone i) && not (has access (modelAt t i))) (anyB values (refers t gone i)) (none-from values (refers t gone i) (λ k l. no-pointer t gone i e k))
+  bare-holds e = rw (none-from values (refers t gone i) (λ k l. no-pointer t gone i e k), and-false)
 
   pub gone-holds : gone i ≡ true → holdsBack t gone access i ≡ false
   gone-holds e = rw (e, and-ended (isLive t Instance i) false refl)
