@@ -1,10 +1,14 @@
-# Short names for what is done here. Every recipe is a command or two of the Rattle kit or of tools/.
-.PHONY: help test check fmt demo vectors kit
+# Short names for what is done here. Every recipe is a command or two of the Rattle kit, of tools/, tests/ or bench/.
+.PHONY: help demo edges test outside check lib bench vectors fmt kit
 
 help:
 	@echo 'make demo             the ten records of document 01, and the lines that the program prints for them'
-	@echo 'make test             layout of the files, then everything proved from nothing, with the must-fail edits'
+	@echo 'make edges            the cases at the edges, and what each gives'
+	@echo 'make test             layout of the files, the tests outside the prover, then everything proved from nothing, with the must-fail edits'
+	@echo 'make outside          the tests outside the prover alone (CALLS=n SEED=n VECTORS=folder)'
 	@echo 'make check CRATE=x    one crate and what it stands on'
+	@echo 'make lib              target/chip: libchip.a and chip.h, for C or Rust on x86-64 to link'
+	@echo 'make bench            times beside plain C, as in docs/BENCH.md'
 	@echo 'make vectors DIR=x    the program on each NAME.bin of a folder, compared with its NAME.txt'
 	@echo 'make fmt              lay the files out'
 
@@ -15,14 +19,31 @@ demo: kit
 	rt check reader
 	tools/reader <crates/reader/stdin
 
+edges: kit
+	rt check edges
+	tools/run target/bin/edges
+
 test: kit
 	rt fmt --check
+	tests/run
 	rt ci
+
+outside: kit
+	tests/run
 
 check: kit
 	@[ -n "$(CRATE)" ] || { echo 'which crate? make check CRATE=words (crates.txt lists them)' >&2; exit 2; }
 	@grep -q '^$(CRATE):' crates.txt || { echo 'no crate "$(CRATE)" in crates.txt' >&2; exit 2; }
 	rt check $(CRATE)
+
+lib: kit
+	rt staticlib chip
+	mkdir -p target/chip
+	cp target/staticlib/libchip.a include/chip.h target/chip/
+	@echo 'target/chip has libchip.a and chip.h'
+
+bench: kit
+	bench/run
 
 vectors: kit
 	@[ -n "$(DIR)" ] || { echo 'which folder? make vectors DIR=path' >&2; exit 2; }

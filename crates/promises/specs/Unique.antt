@@ -18,7 +18,6 @@ use Rattle.words.proofs.fields.header.Reads as words-fields-header
 use Rattle.words.proofs.fields.type_in.Reads as words-fields-type-in
 use Rattle.words.proofs.fields.model_in.Reads as words-fields-model-in
 use Rattle.words.proofs.fields.flags_in.Reads as words-fields-flags-in
-use Rattle.words.proofs.fields.is_header.Reads as words-fields-is-header
 use Rattle.words.proofs.fields.is_flagged.Reads as words-fields-is-flagged
 use Rattle.words.proofs.fields.with_flag.Reads as words-fields-with-flag
 use Rattle.words.proofs.fields.without_flag.Reads as words-fields-without-flag
@@ -148,6 +147,8 @@ use Rattle.records.proofs.decoding.decode.Reads as records-decoding-decode
 use Rattle.records.proofs.lines.line.Reads as records-lines-line
 use Rattle.records.proofs.lines.bad.Reads as records-lines-bad
 use Rattle.records.proofs.lines.end.Reads as records-lines-end
+use Rattle.chip.proofs.chip_call.Reads as chip-chip-call
+use Rattle.unchecked.proofs.chip_core.Reads as unchecked-chip-core
 
 -- ---- words
 
@@ -192,9 +193,6 @@ words-fields-model-in-one κs a x y s s′ p q = p ∙ sym q
 
 pub words-fields-flags-in-one : (κs : _) (a : _) (x y : _) (s s′ : _) → words-fields-flags-in.Post κs a x s → words-fields-flags-in.Post κs a y s′ → x ≡ y
 words-fields-flags-in-one κs a x y s s′ p q = p ∙ sym q
-
-pub words-fields-is-header-one : (κs : _) (a : _) (x y : _) (s s′ : _) → words-fields-is-header.Post κs a x s → words-fields-is-header.Post κs a y s′ → x ≡ y
-words-fields-is-header-one κs a x y s s′ p q = p ∙ sym q
 
 pub words-fields-is-flagged-one : (κs : _) (a : _) (x y : _) (s s′ : _) → words-fields-is-flagged.Post κs a x s → words-fields-is-flagged.Post κs a y s′ → x ≡ y
 words-fields-is-flagged-one κs a x y s s′ p q = p ∙ sym q
@@ -590,3 +588,11 @@ records-lines-bad-one κs a x y s s′ p q = (p .1 ∙ sym (q .1), p .0 ∙ sym 
 
 pub records-lines-end-one : (κs : _) (a : _) (x y : _) (s s′ : _) → records-lines-end.Post κs a x s → records-lines-end.Post κs a y s′ → (x ≡ y) × (now (s .0) ≡ now (s′ .0))
 records-lines-end-one κs a x y s s′ p q = (p .1 ∙ sym (q .1), p .0 ∙ sym (q .0))
+
+-- ---- the faces for C: chip and, for the bench, unchecked
+
+pub chip-chip-call-one : (κs : _) (a : _) (x y : _) (s s′ : _) → chip-chip-call.Post κs a x s → chip-chip-call.Post κs a y s′ → outcome x (now (s .1 .1 .1 .1 .1 .0)) (now (s .1 .1 .1 .1 .1 .1 .0)) ≡ outcome y (now (s′ .1 .1 .1 .1 .1 .0)) (now (s′ .1 .1 .1 .1 .1 .1 .0))
+chip-chip-call-one κs a x y s s′ p q = p ∙ sym q
+
+pub unchecked-chip-core-one : (κs : _) (a : _) (x y : _) (s s′ : _) → unchecked-chip-core.Post κs a x s → unchecked-chip-core.Post κs a y s′ → outcome x (now (s .1 .1 .1 .1 .1 .0)) (now (s .1 .1 .1 .1 .1 .1 .0)) ≡ outcome y (now (s′ .1 .1 .1 .1 .1 .0)) (now (s′ .1 .1 .1 .1 .1 .1 .0))
+unchecked-chip-core-one κs a x y s s′ p q = p ∙ sym q

@@ -7,8 +7,8 @@ use Rattle.words.specs.declared.layout.Kind.{Kind}
 use Rattle.words.specs.Layout.{countOf}
 use Rattle.words.specs.Search.{allB}
 use Rattle.words.specs.Sets.{bits, none, has, insert}
-use Rattle.words.specs.Fields.{schemaIn, typeIn, modelIn, isHeader, isFree}
-use Rattle.dictionary.specs.Dictionary.{isType, schemaOf}
+use Rattle.words.specs.Fields.{schemaIn, modelIn, isFree}
+use Rattle.dictionary.specs.Dictionary.{schemaOf}
 use Rattle.tables.specs.declared.live.Live.{Live}
 use Rattle.tables.specs.View.{labelAt}
 
@@ -47,5 +47,6 @@ ofSchema live schema = cond (eqb schema 1) (live .first) (live .second)
 abbrev pub within : ℕ → ℕ → Bool
 within set other = allB bits (λ m. not (has set m) || has other m)
 
-abbrev pub headerFits : Live → ℕ → Bool
-headerFits live h = isHeader h && isType (typeIn h) && has (ofSchema live (schemaOf (typeIn h))) (modelIn h)
+-- the model of a header is live and of this type's schema
+abbrev pub modelFits : Live → ℕ → ℕ → Bool
+modelFits live type h = has (ofSchema live (schemaOf type)) (modelIn h)

@@ -1,34 +1,40 @@
--- The values of an instance as the code asks for them: the flags all at once, and then of each value what the flags leave.
-use Prim.Native.Nat.{ℕ, _+_, _/_, _^_}
-use mathlib.Core.Bool.{Bool, true, cond, _&&_}
+-- The values of an instance as the code asks for them: the flags all at once, the four value words all at once, and then the
+-- one reference that its type may have.
+use Prim.Native.Nat.{ℕ, _+_, _*_, _/_, _^_}
+use mathlib.Core.Bool.{Bool, cond, not, _&&_, _||_}
 use mathlib.Core.List.{List}
 use lib.Dec.{eqb, ltb}
 use lib.ListN.{length, getD}
 use Rattle.words.specs.declared.layout.Kind.the-variants.{Instance}
 use Rattle.words.specs.Search.{allB}
-use Rattle.words.specs.Fields.{typeIn, flagsIn, values, flagged}
-use Rattle.dictionary.specs.declared.answers.Attribute.{Attribute}
-use Rattle.dictionary.specs.declared.answers.Attribute.the-variants.{Lacking, Whole, Reference}
-use Rattle.dictionary.specs.Dictionary.{attributesOf, attributeOf}
-use Rattle.dictionary.specs.Subtype.{subtype}
+use Rattle.words.specs.Sets.{bitOf, has}
+use Rattle.words.specs.Fields.{values, flagged}
+use Rattle.dictionary.specs.Dictionary.{attributesOf}
+use Rattle.dictionary.specs.References.{referenceOf, targetsOf}
 use Rattle.tables.specs.View.{isLive, typeAt}
 
--- "flags stand only for attributes that the type has": no flag from the number of its attributes on
-abbrev pub flagsFit : ℕ → Bool
-flagsFit h = eqb (flagsIn h / 2 ^ length (attributesOf (typeIn h))) 0
+-- "flags stand only for attributes that the type has": from the number of its attributes on there is none, nor anything above
+abbrev pub flagsFit : ℕ → ℕ → Bool
+flagsFit type h = eqb (h / 0x1_0000 / 2 ^ length (attributesOf type)) 0
 
--- of the attributes that a type has, only a reference asks for more than a value word
-abbrev pub referenceFits : List ℕ → Attribute → ℕ → Bool
-referenceFits t Lacking v = true
-referenceFits t Whole v = true
-referenceFits t (Reference target) v = isLive t Instance v && subtype (typeAt t v) target
-
-abbrev pub valueFits : List ℕ → Attribute → Bool → ℕ → Bool
-valueFits t a set v = cond set (ltb v 0x1_0000_0000 && referenceFits t a v) (eqb v 0)
+-- a value word below 2^32 if it is set, else 0
+abbrev pub wordFits : Bool → ℕ → Bool
+wordFits set v = cond set (ltb v 0x1_0000_0000) (eqb v 0)
 
 -- the four value words after the header h at this place
-abbrev pub valuesFit : List ℕ → ℕ → ℕ → Bool
-valuesFit t at h = allB values (λ k. valueFits t (attributeOf (typeIn h) k) (flagged h k) (getD t (at + (1 + k)) 0))
+abbrev pub wordsFit : List ℕ → ℕ → ℕ → Bool
+wordsFit t at h = allB values (λ k. wordFits (flagged h k) (getD t (at + (1 + k)) 0))
+
+-- what a value word has beyond the 32 bits, or none, that flag k leaves it
+abbrev pub excessOf : ℕ → ℕ → ℕ → ℕ
+excessOf v h k = v / 2 ^ (32 * bitOf h (16 + k))
+
+-- a live instance of one of these types
+abbrev pub targetFits : List ℕ → ℕ → ℕ → Bool
+targetFits t right v = isLive t Instance v && has right (typeAt t v)
+
+abbrev pub referenceFits : List ℕ → ℕ → ℕ → ℕ → Bool
+referenceFits t at type h = not (flagged h (referenceOf type)) || targetFits t (targetsOf type) (getD t (at + (1 + referenceOf type)) 0)
 
 abbrev pub noValues : List ℕ → ℕ → Bool
 noValues t at = allB values (λ k. eqb (getD t (at + (1 + k)) 0) 0)

@@ -1,11 +1,10 @@
 // The live entries of each schema as sets, built once, so that a set of models and an instance's model are tested by one word.
 ghost use mathlib.Core.Path.{_≡_};
-ghost use Rattle.tables.specs.Live.{noLive, withLive, ofSchema, within, headerFits};
-use dictionary::is_type;
+ghost use Rattle.words.specs.Sets.{has as hasBit};
+ghost use Rattle.tables.specs.Live.{noLive, withLive, ofSchema, within, modelFits};
 use dictionary::schema;
-use words::fields::is_header;
 use words::fields::model_in;
-use words::fields::type_in;
+use words::sets::BITS;
 use words::sets::EMPTY;
 use words::sets::has;
 use words::sets::with;
@@ -54,13 +53,16 @@ pub fn is_within(set: u64, other: u64) -> bool
     set & other == set
 }
 
-// "an instance's model is live and of its type's schema"
-pub fn header_fits(live: Live, h: u64) -> bool
-    ensures { λ r. ⌜ r ≡ headerFits live h ⌝ }
+// Whether a number is in a set, as `has`, but with no branch on the number.
+pub fn is_member(set: u64, m: u32) -> bool
+    ensures { λ r. ⌜ r ≡ hasBit set m ⌝ }
 {
-    if !is_header(h) {
-        return false;
-    }
-    let ty = type_in(h);
-    is_type(ty) & has(of_schema(live, schema(ty)), model_in(h))
+    (m < BITS) & has(set, m % BITS)
+}
+
+// "an instance's model is live and of its type's schema"
+pub fn model_fits(live: Live, ty: u32, h: u64) -> bool
+    ensures { λ r. ⌜ r ≡ modelFits live ty h ⌝ }
+{
+    is_member(of_schema(live, schema(ty)), model_in(h))
 }

@@ -12,18 +12,21 @@ ghost use Rattle.tables.specs.Sound.{soundGroup, soundInstance, soundTab
 use super::labels::Tested;
 use super::labels::test_labels;
 use super::live::Live;
-use super::live::header_fits;
 use super::live::is_within;
+use super::live::model_fits;
 use super::live::of_schema;
 use super::values::flags_fit;
 use super::values::no_values;
-use super::values::values_fit;
+use super::values::reference_fits;
+use super::values::words_fit;
 use super::view::label_at;
 use super::view::set_at;
+use dictionary::is_type;
 use words::copies::agree;
 use words::copies::is_long;
 use words::fields::is_free;
 use words::fields::schema_in;
+use words::fields::type_in;
 use words::layout::Kind;
 use words::layout::base;
 use words::layout::count;
@@ -58,7 +61,8 @@ fn sound_groups(t: &[u64], live: Live) -> bool
     true
 }
 
-// The table is long enough, so the words are read where they stand.
+// The table is long enough, so the words are read where they stand. Tests are joined by `&`: in this loop a branch that
+// goes now one way, now the other costs more than the test that it spares.
 fn sound_instance(t: &[u64], live: Live, i: u32) -> bool
     requires { ⌜ (live ≡ liveIn (now t) Model) × (words ≤ length (now t)) × (i < countOf Instance) ⌝ }
     ensures { λ r. ⌜ r ≡ soundInstance (now (t .entry)) i ⌝ }
@@ -68,13 +72,15 @@ fn sound_instance(t: &[u64], live: Live, i: u32) -> bool
     if h == 0 {
         return no_values(t, at);
     }
-    if !header_fits(live, h) {
+    // No type, or none of the ten. In a function of its own this test would not spare the matches on the type theirs.
+    let ty = type_in(h);
+    if (h % 256 == 0) | !is_type(ty) {
         return false;
     }
-    if !flags_fit(h) {
+    if !(model_fits(live, ty, h) & flags_fit(ty, h) & words_fit(t, at, h)) {
         return false;
     }
-    values_fit(t, at, h)
+    reference_fits(t, at, ty, h)
 }
 
 fn sound_instances(t: &[u64], live: Live) -> bool

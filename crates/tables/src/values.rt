@@ -1,83 +1,75 @@
-// The values of an instance: the flags all at once, and then of each value what the flags leave.
+// The values of an instance: the flags all at once, the four value words all at once, and then the one reference that its
+// type may have.
 ghost use mathlib.Core.Path.{_≡_};
-ghost use mathlib.Core.Bool.{_&&_};
-ghost use Prim.Native.Nat.{_+_, _<_};
+ghost use Prim.Native.Nat.{_+_, _≤_, _<_};
 ghost use lib.ListN.{length};
-ghost use Rattle.words.specs.declared.layout.Kind.the-variants.{Instance};
-ghost use Rattle.words.specs.Fields.{typeIn, flagged};
-ghost use Rattle.dictionary.specs.Dictionary.{attributeOf};
-ghost use Rattle.dictionary.specs.Subtype as spec;
-ghost use Rattle.tables.specs.View.{isLive, typeAt};
-ghost use Rattle.tables.specs.Values.{referenceFits, valueFits, flagsFit, valuesFit, noValues};
-use super::view::header_at;
-use dictionary::Attribute;
-use dictionary::attribute;
+ghost use Rattle.words.specs.Layout.{words};
+ghost use Rattle.words.specs.Fields.{values};
+ghost use Rattle.tables.specs.Values.{flagsFit, excessOf, wordsFit, targetFits, referenceFits, noValues};
+use super::live::is_member;
 use dictionary::attributes;
-use dictionary::subtype;
-use words::fields::flags_in;
+use dictionary::reference;
+use dictionary::targets;
+use words::fields::FLAGS;
 use words::fields::is_flagged;
 use words::fields::is_free;
 use words::fields::type_in;
 use words::layout::Kind;
 use words::layout::count;
+use words::layout::place;
+
+// The bits of a value.
+const VALUE_BITS: u64 = 32;
+
+// "flags stand only for attributes that the type has": those come first. Nothing stands above the flags.
+pub fn flags_fit(ty: u32, h: u64) -> bool
+    ensures { λ r. ⌜ r ≡ flagsFit ty h ⌝ }
+{
+    (h >> FLAGS) >> attributes(ty) == 0
+}
+
+// What a value word has beyond what flag k leaves it: the bits of a value if it is set, else none.
+fn excess(v: u64, h: u64, k: u32) -> u64
+    requires { ⌜ k < values ⌝ }
+    ensures { λ r. ⌜ r ≡ excessOf v h k ⌝ }
+{
+    v >> (VALUE_BITS * ((h >> (FLAGS + k)) % 2))
+}
+
+// The four value words of the instance whose header h stands at this place.
+pub fn words_fit(t: &[u64], at: usize, h: u64) -> bool
+    requires { ⌜ at + 4 < length (now t) ⌝ }
+    ensures { λ r. ⌜ r ≡ wordsFit (now (t .entry)) at h ⌝ }
+{
+    (excess(t[at + 1], h, 0)
+        | excess(t[at + 2], h, 1)
+        | excess(t[at + 3], h, 2)
+        | excess(t[at + 4], h, 3))
+        == 0
+}
 
 // "a set reference names a live instance of the right type"
-fn is_target(t: &[u64], target: u32, v: u64) -> bool
-    ensures { λ r. ⌜ r ≡ (isLive (now (t .entry)) Instance v && spec.subtype (typeAt (now (t .entry)) v) target) ⌝ }
+fn is_target(t: &[u64], right: u64, v: u64) -> bool
+    requires { ⌜ words ≤ length (now t) ⌝ }
+    ensures { λ r. ⌜ r ≡ targetFits (now (t .entry)) right v ⌝ }
 {
     if (count(Kind::Instance) as u64) <= v {
         return false;
     }
-    let h = header_at(t, v as u32);
-    !is_free(h) & subtype(type_in(h), target)
+    let h = t[place(Kind::Instance, v as u32)];
+    !is_free(h) & is_member(right, type_in(h))
 }
 
-// Of the attributes that a type has, only a reference asks for more than a value word.
-fn reference_fits(t: &[u64], a: Attribute, v: u64) -> bool
-    ensures { λ r. ⌜ r ≡ referenceFits (now (t .entry)) a v ⌝ }
+// The reference of the instance, if its type has one and it is set.
+pub fn reference_fits(t: &[u64], at: usize, ty: u32, h: u64) -> bool
+    requires { ⌜ (at + 4 < length (now t)) × (words ≤ length (now t)) ⌝ }
+    ensures { λ r. ⌜ r ≡ referenceFits (now (t .entry)) at ty h ⌝ }
 {
-    match a {
-        Attribute::Lacking => true,
-        Attribute::Whole => true,
-        Attribute::Reference(target) => is_target(t, target, v),
-    }
-}
-
-// What is asked of value k under the header h, but for a flag of an attribute that the type lacks.
-fn value_fits(t: &[u64], h: u64, k: u32, v: u64) -> bool
-    ensures { λ r. ⌜ r ≡ valueFits (now (t .entry)) (attributeOf (typeIn h) k) (flagged h k) v ⌝ }
-{
+    let k = reference(ty);
     if !is_flagged(h, k) {
-        return v == 0;
+        return true;
     }
-    if 0x1_0000_0000 <= v {
-        return false;
-    }
-    reference_fits(t, attribute(type_in(h), k), v)
-}
-
-// "flags stand only for attributes that the type has": those come first.
-pub fn flags_fit(h: u64) -> bool
-    ensures { λ r. ⌜ r ≡ flagsFit h ⌝ }
-{
-    flags_in(h) >> attributes(type_in(h)) == 0
-}
-
-// The four values of the instance whose header h stands at this place.
-pub fn values_fit(t: &[u64], at: usize, h: u64) -> bool
-    requires { ⌜ at + 4 < length (now t) ⌝ }
-    ensures { λ r. ⌜ r ≡ valuesFit (now (t .entry)) at h ⌝ }
-{
-    if !value_fits(t, h, 0, t[at + 1]) {
-        return false;
-    }
-    if !value_fits(t, h, 1, t[at + 2]) {
-        return false;
-    }
-    if !value_fits(t, h, 2, t[at + 3]) {
-        return false;
-    }
-    value_fits(t, h, 3, t[at + 4])
+    is_target(t, targets(ty), t[at + 1 + (k as usize)])
 }
 
 // "five words 0 if free": those after the header.

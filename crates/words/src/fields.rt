@@ -1,8 +1,6 @@
 // The fields of the words: the label of a model or a schema instance, the header of an instance.
 ghost use mathlib.Core.Path.{_≡_};
-ghost use Rattle.words.specs.Fields.{labelOf, nameIn, repositoryIn, schemaIn, isSchema, isLabel, headerOf, typeIn, modelIn, flagsIn, isHeader, flagged, withFlag, withoutFlag, valueIn, isFree, isNamed};
-use crate::layout::Kind;
-use crate::layout::count;
+ghost use Rattle.words.specs.Fields.{labelOf, nameIn, repositoryIn, schemaIn, isSchema, isLabel, headerOf, typeIn, modelIn, flagsIn, flagged, withFlag, withoutFlag, valueIn, isFree, isNamed};
 use crate::sets;
 
 pub const REPOSITORIES: u32 = 8;
@@ -11,7 +9,7 @@ pub const REPOSITORIES: u32 = 8;
 pub const VALUES: u32 = 4;
 
 // The bit of flag 0 in a header.
-const FLAGS: u32 = 16;
+pub const FLAGS: u32 = 16;
 
 // Repository and schema have eight bits each: what does not fit is cut.
 pub fn label(repository: u32, schema: u32, name: u32) -> u64
@@ -76,12 +74,6 @@ pub fn flags_in(header: u64) -> u32
     ensures { λ r. ⌜ r ≡ flagsIn header ⌝ }
 {
     (header / 0x1_0000 % 256) as u32
-}
-
-pub fn is_header(w: u64) -> bool
-    ensures { λ r. ⌜ r ≡ isHeader w ⌝ }
-{
-    (w < 0x10_0000) & (1 <= w % 256) & (model_in(w) < count(Kind::Model))
 }
 
 // Whether attribute k is set.

@@ -4,28 +4,29 @@ use mathlib.Core.Bool.{Bool, true, false, cond, not, _&&_, _||_}
 use mathlib.Core.Logic.{⊎-elim}
 use mathlib.Core.List.{List}
 use Prim.Native.Nat.{ℕ, zero, suc, _/_, _+_, _%_, _^_, min, _≤_, _<_}
-use native.Mathlib.Nat.{eq-or-lt-of-le, le-of-suc-le-suc}
+use native.Mathlib.Nat.{eq-or-lt-of-le, le-of-suc-le-suc, mod-eq-of-lt}
+use native.Mathlib.Decide.{decLt}
 use native.Mathlib.Numerals.{add-one}
 use native.Mathlib.Omega.{arith}
-use lib.Dec.{eqb}
+use lib.Dec.{eqb, ltb}
 use lib.Bits.{bitAnd, and-step, and-shr, and-le-l}
-use borrow.Author.Tests.{eq-eqb, ne-eqb, eqb-true, eqb-false}
+use borrow.Author.Tests.{eq-eqb, ne-eqb, eqb-true, eqb-false, lt-ltb, le-ltb}
 use Rattle.words.specs.declared.layout.Kind.{Kind}
 use Rattle.words.specs.declared.layout.Kind.the-variants.{Model, SchemaInstance}
 use Rattle.words.specs.Layout.{countOf}
 use Rattle.words.specs.Sets.{bits, bitOf, has, insert}
-use Rattle.words.specs.Fields.{schemaIn, typeIn, modelIn, isLabel, isHeader}
+use Rattle.words.specs.Fields.{schemaIn, typeIn, modelIn, isLabel}
 use Rattle.words.specs.Entries.{freeAt}
 use Rattle.words.specs.Laws.Bools.{and-right}
 use Rattle.words.specs.Laws.Decides.{equal, every, restated}
-use Rattle.words.specs.Laws.Sets.{has-none, has-insert, same-members}
-use Rattle.words.specs.Laws.Fields.{Label, label-test, label-is-live, header-test}
+use Rattle.words.specs.Laws.Sets.{has-none, has-insert, has-past, same-members}
+use Rattle.words.specs.Laws.Fields.{Label, label-test, label-is-live}
 use Rattle.dictionary.specs.Dictionary.{isType, schemaOf}
 use Rattle.dictionary.specs.TypeLaws.{type-schema}
 use Rattle.tables.specs.declared.live.Live.{Live}
 use Rattle.tables.specs.View.{isLive, labelAt, setAt}
-use Rattle.tables.specs.Sound.{soundGroup, soundHeader}
-use Rattle.tables.specs.Live.{isOf, withIf, liveOf, liveBelow, liveIn, withLive, ofSchema, within, headerFits}
+use Rattle.tables.specs.Sound.{soundGroup}
+use Rattle.tables.specs.Live.{isOf, withIf, liveOf, liveBelow, liveIn, withLive, ofSchema, within, modelFits}
 use Rattle.tables.specs.Laws.Tests.{itself, implied, same-test, all-same}
 
 -- ---- a set within another
@@ -83,16 +84,24 @@ module _ (t : List ℕ) (schema : ℕ) where
       (λ k. has-other (isOf schema (labelAt t Model n)) (liveOf t Model schema n) n m (omega arith) (λ e. omega arith) ∙ live-member n m (omega arith) k)
       (eq-or-lt-of-le (le-of-suc-le-suc l))
 
+  -- a number past the last model is in no set
+  live-has : (m : ℕ) → has (liveOf t Model schema (countOf Model)) m ≡ isOf schema (labelAt t Model m)
+  live-has m = told (decLt m (countOf Model))
+    where
+      told : Dec (m < countOf Model) → has (liveOf t Model schema (countOf Model)) m ≡ isOf schema (labelAt t Model m)
+      told (yes l) = live-member (countOf Model) m (omega arith) l
+      told (no l) = live-later (countOf Model) m (omega arith) (omega arith) ∙ rw (le-ltb m (countOf Model) (omega arith))
+
   -- both schemas
-  pub live-of-schema : 1 ≤ schema → schema ≤ 2 → (m : ℕ) → m < bits → has (ofSchema (liveIn t Model) schema) m ≡ isOf schema (labelAt t Model m)
-  live-of-schema l h m k = told (eqb schema 1) refl
+  pub live-of-schema : 1 ≤ schema → schema ≤ 2 → (m : ℕ) → has (ofSchema (liveIn t Model) schema) m ≡ isOf schema (labelAt t Model m)
+  live-of-schema l h m = told (eqb schema 1) refl
     where
       told : (b : Bool) → eqb schema 1 ≡ b → has (cond b (liveOf t Model 1 (countOf Model)) (liveOf t Model 2 (countOf Model))) m ≡ isOf schema (labelAt t Model m)
-      told true e = ap (λ (x : ℕ). has (liveOf t Model x (countOf Model)) m) (sym (eqb-true schema 1 e)) ∙ live-member (countOf Model) m (omega arith) k
+      told true e = ap (λ (x : ℕ). has (liveOf t Model x (countOf Model)) m) (sym (eqb-true schema 1 e)) ∙ live-has m
       told false e =
           let n : schema ≡ 1 → ⊥ = eqb-false schema 1 e in
           let two : 2 ≡ schema = omega arith in
-          ap (λ (x : ℕ). has (liveOf t Model x (countOf Model)) m) two ∙ live-member (countOf Model) m (omega arith) k
+          ap (λ (x : ℕ). has (liveOf t Model x (countOf Model)) m) two ∙ live-has m
 
 -- ---- one entry more
 
@@ -114,18 +123,22 @@ module _ (t : List ℕ) (kind : Kind) (i : ℕ) where
           let two : schemaIn (labelAt t kind i) ≡ 2 = omega arith in
           rw (two)
 
--- ---- the tests of a group and of a header
+-- ---- the tests of a group and of a model
 
 pub group-by-sets : (t : List ℕ) (s : ℕ) → freeAt t SchemaInstance s ≡ false → isLabel (labelAt t SchemaInstance s) ≡ true → within (setAt t s) (ofSchema (liveIn t Model) (schemaIn (labelAt t SchemaInstance s))) ≡ soundGroup t s
 unfolding soundGroup
 group-by-sets t s live e =
     let w : Label (labelAt t SchemaInstance s) = label-test (labelAt t SchemaInstance s) .holds e in
-    rw (live, e) (all-same bits _ _ (λ m l. ap (λ (b : Bool). not (has (setAt t s) m) || b) (live-of-schema t (schemaIn (labelAt t SchemaInstance s)) (w .schema-from) (w .schema-to) m l)))
+    rw (live, e) (all-same bits _ _ (λ m l. ap (λ (b : Bool). not (has (setAt t s) m) || b) (live-of-schema t (schemaIn (labelAt t SchemaInstance s)) (w .schema-from) (w .schema-to) m)))
 
-pub header-by-sets : (t : List ℕ) (h : ℕ) → headerFits (liveIn t Model) h ≡ soundHeader t h
-header-by-sets t h = told (isHeader h) refl (isType (typeIn h)) refl
+pub model-by-sets : (t : List ℕ) (h : ℕ) → isType (typeIn h) ≡ true → modelFits (liveIn t Model) (typeIn h) h ≡ (isLive t Model (modelIn h) && eqb (schemaIn (labelAt t Model (modelIn h))) (schemaOf (typeIn h)))
+model-by-sets t h e = live-of-schema t (schemaOf (typeIn h)) (type-schema (typeIn h) e .0) (type-schema (typeIn h) e .1) (modelIn h)
+
+-- ---- a number is in a set as far as the set has bits
+
+pub has-folded : (s m : ℕ) → s < 2 ^ bits → (ltb m bits && has s (m % bits)) ≡ has s m
+has-folded s m h = told (decLt m bits)
   where
-    told : (a : Bool) → isHeader h ≡ a → (b : Bool) → isType (typeIn h) ≡ b → (a && b && has (ofSchema (liveIn t Model) (schemaOf (typeIn h))) (modelIn h)) ≡ (a && b && isLive t Model (modelIn h) && eqb (schemaIn (labelAt t Model (modelIn h))) (schemaOf (typeIn h)))
-    told false p b q = refl
-    told true p false q = refl
-    told true p true q = live-of-schema t (schemaOf (typeIn h)) (type-schema (typeIn h) q .0) (type-schema (typeIn h) q .1) (modelIn h) (header-test h .holds p .model)
+    told : Dec (m < bits) → (ltb m bits && has s (m % bits)) ≡ has s m
+    told (yes l) = rw (lt-ltb m bits l, mod-eq-of-lt l)
+    told (no l) = rw (le-ltb m bits (omega arith)) (sym (has-past s m h (omega arith)))

@@ -1,10 +1,12 @@
 -- More on tests that decide a statement: one that follows from another, and that two tests of one statement are the same.
-use mathlib.Core.Path.{_≡_, refl, sym}
+use mathlib.Core.Path.{_≡_, refl, sym, ap, _∙_}
 use mathlib.Core.Bool.{Bool, true, false, not, _&&_, _||_, false≢true}
 use Prim.Native.Nat.{ℕ, zero, suc, _<_}
+use native.Mathlib.Decide.{ℕ-discrete}
 use native.Mathlib.Omega.{arith}
 use Rattle.words.specs.Search.{allB}
 use Rattle.words.specs.Laws.Decides.{Decides}
+use Rattle.words.specs.Laws.Search.{all-from, all-stop}
 
 pub itself : (b : Bool) → Decides b (b ≡ true)
 itself b = record { holds = λ h. h; passes = λ h. h }
@@ -34,3 +36,15 @@ all-both (suc n) f g = rw (← all-both n f g) (told (allB n f) (f n) (allB n g)
     told true false true d = refl
     told true false false d = refl
     told false b c d = refl
+
+-- where all but one pass, that one decides
+pub all-one : (n : ℕ) (f : ℕ → Bool) (r : ℕ) → r < n → ((k : ℕ) → (k ≡ r → ⊥) → f k ≡ true) → allB n f ≡ f r
+all-one n f r l others = told (f r) refl
+  where
+    told : (b : Bool) → f r ≡ b → allB n f ≡ b
+    told false e = all-stop n f r l e
+    told true e = all-from n f (λ k m. passing k (ℕ-discrete k r))
+      where
+        passing : (k : ℕ) → Dec (k ≡ r) → f k ≡ true
+        passing k (yes same) = ap f same ∙ e
+        passing k (no apart) = others k apart

@@ -1,13 +1,26 @@
--- All words of an entry below the count lie in the table. What is asked of them in parts is the definition (`free-by-parts`, `live-by-parts`).
-use mathlib.Core.Path.{sym, _∙_}
+-- All words of an entry below the count lie in the table. What is asked of them in parts is the definition (`free-by-parts`, `untyped-unsound`, `live-by-parts`).
+use mathlib.Core.Path.{_≡_, sym, _∙_}
+use mathlib.Core.Bool.{_&&_}
 use native.Mathlib.Omega.{arith}
+use lib.ListN.{getD}
 use borrow.Author.Tests.{not-true, not-false}
 use Rattle.words.specs.declared.layout.Kind.the-variants.{Instance}
+use Rattle.words.specs.Layout.{placeOf}
 use Rattle.words.specs.Laws.Layout.{in-use}
-use Rattle.tables.specs.Laws.Values.{free-by-parts, live-by-parts}
+use Rattle.tables.specs.Sound.{soundInstance}
+use Rattle.tables.specs.Laws.Values.{free-by-parts, by-parts, untyped-unsound, live-by-parts, at-once}
 use borrow.Author.Needs.{needs}
 use Rattle.tables.proofs.sound.sound_instance.Statement.{statement}
 use Rattle.tables.proofs.sound.sound_instance.Tie as tie
+
+live : (c : tie.Else1) → getD (c .before .before .before .before .args .t .now) (placeOf Instance (c .before .before .before .before .args .i)) 0 ≡ 0 → ⊥
+live c = rw (c .before .before .place .ensures) at (c .if1 .left)
+
+parts : (c : tie.Else2) → by-parts (c .before .before .before .before .before .before .before .args .t .now) (c .before .before .before .before .before .before .before .args .i) (c .before .before .before .before .before .before .before .pre .2) ≡ soundInstance (c .before .before .before .before .before .before .before .args .t .now) (c .before .before .before .before .before .before .before .args .i)
+parts c = live-by-parts (c .before .before .before .before .before .before .before .args .t .now) (c .before .before .before .before .before .before .before .args .i) (c .before .before .before .before .before .before .before .pre .2) (live (c .before .before .before)) (rw (c .before .is-type .ensures, c .before .before .type-in .ensures, c .before .before .before .before .before .place .ensures) at (c .if2 .left))
+
+tests : (c : tie.After-words-fit) → at-once (c .before .before .before .before .before .before .before .before .before .before .args .t .now) (c .before .before .before .before .before .before .before .before .before .before .args .i) (c .before .before .before .before .before .before .before .before .before .before .pre .2) ≡ (c .before .before .model-fits .result && c .before .flags-fit .result && c .words-fit .result)
+tests c = rw (c .before .before .model-fits .ensures, c .before .flags-fit .ensures, c .words-fit .ensures, c .before .before .before .before .before .type-in .ensures, c .before .before .before .before .before .before .before .before .place .ensures, c .before .before .before .before .before .before .before .before .before .before .pre .0)
 
 place-requires : tie.Need-place-requires
 place-requires c κs = search needs
@@ -24,23 +37,32 @@ no-values-requires c κs = omega (arith, c .before .before .place .ensures, c .b
 returns : tie.Need-returns
 returns c = rw (c .no-values .ensures, c .before .before .before .place .ensures) (free-by-parts (c .before .before .before .before .before .args .t .now) (c .before .before .before .before .before .args .i) (c .before .before .before .before .before .pre .2) (rw (c .before .before .before .place .ensures) at (c .before .if1 .taken)))
 
-header-fits-requires : tie.Need-header-fits-requires
-header-fits-requires c κs = search needs
+type-in-requires : tie.Need-type-in-requires
+type-in-requires c κs = search needs
+
+is-type-requires : tie.Need-is-type-requires
+is-type-requires c κs = search needs
 
 returns-2 : tie.Need-returns-2
-returns-2 c = rw (← live-by-parts (c .before .before .before .before .before .before .args .t .now) (c .before .before .before .before .before .before .args .i) (c .before .before .before .before .before .before .pre .2) (rw (c .before .before .before .before .place .ensures) at (c .before .before .if1 .left)), rw (c .before .before .before .before .before .before .pre .0, c .before .before .before .before .place .ensures) at (sym (c .before .header-fits .ensures) ∙ not-true _ (c .if2 .taken)))
+returns-2 c = sym (untyped-unsound (c .before .before .before .before .before .before .before .args .t .now) (c .before .before .before .before .before .before .before .args .i) (c .before .before .before .before .before .before .before .pre .2) (live (c .before .before .before)) (rw (c .before .is-type .ensures, c .before .before .type-in .ensures, c .before .before .before .before .before .place .ensures) at (c .if2 .taken)))
+
+model-fits-requires : tie.Need-model-fits-requires
+model-fits-requires c κs = search needs
 
 flags-fit-requires : tie.Need-flags-fit-requires
 flags-fit-requires c κs = search needs
 
-returns-3 : tie.Need-returns-3
-returns-3 c = rw (← live-by-parts (c .before .before .before .before .before .before .before .before .args .t .now) (c .before .before .before .before .before .before .before .before .args .i) (c .before .before .before .before .before .before .before .before .pre .2) (rw (c .before .before .before .before .before .before .place .ensures) at (c .before .before .before .before .if1 .left)), rw (c .before .before .before .before .before .before .before .before .pre .0, c .before .before .before .before .before .before .place .ensures) at (sym (c .before .before .before .header-fits .ensures) ∙ not-false _ (c .before .before .if2 .left)), rw (c .before .before .before .before .before .before .place .ensures) at (sym (c .before .flags-fit .ensures) ∙ not-true _ (c .if3 .taken)))
+words-fit-requires : tie.Need-words-fit-requires
+words-fit-requires c κs = omega (arith, c .before .before .before .before .before .before .before .place .ensures, c .before .before .before .before .before .before .before .before .before .pre .1, in-use Instance (c .before .before .before .before .before .before .before .before .before .args .i) 4 (c .before .before .before .before .before .before .before .before .before .pre .2) (omega arith))
 
-values-fit-requires : tie.Need-values-fit-requires
-values-fit-requires c κs = omega (arith, c .before .before .before .before .before .before .place .ensures, c .before .before .before .before .before .before .before .before .pre .1, in-use Instance (c .before .before .before .before .before .before .before .before .args .i) 4 (c .before .before .before .before .before .before .before .before .pre .2) (omega arith))
+returns-3 : tie.Need-returns-3
+returns-3 c = rw (← parts (c .before .before .before .before), tests (c .before) ∙ not-true (c .before .before .before .model-fits .result && c .before .before .flags-fit .result && c .before .words-fit .result) (c .if3 .taken))
+
+reference-fits-requires : tie.Need-reference-fits-requires
+reference-fits-requires c κs = (omega (arith, c .before .before .before .before .before .before .before .before .before .place .ensures, c .before .before .before .before .before .before .before .before .before .before .before .pre .1, in-use Instance (c .before .before .before .before .before .before .before .before .before .before .before .args .i) 4 (c .before .before .before .before .before .before .before .before .before .before .before .pre .2) (omega arith)), c .before .before .before .before .before .before .before .before .before .before .before .pre .1)
 
 returns-4 : tie.Need-returns-4
-returns-4 c = rw (← live-by-parts (c .before .before .before .before .before .before .before .before .before .args .t .now) (c .before .before .before .before .before .before .before .before .before .args .i) (c .before .before .before .before .before .before .before .before .before .pre .2) (rw (c .before .before .before .before .before .before .before .place .ensures) at (c .before .before .before .before .before .if1 .left)), rw (c .before .before .before .before .before .before .before .before .before .pre .0, c .before .before .before .before .before .before .before .place .ensures) at (sym (c .before .before .before .before .header-fits .ensures) ∙ not-false _ (c .before .before .before .if2 .left)), rw (c .before .before .before .before .before .before .before .place .ensures) at (sym (c .before .before .flags-fit .ensures) ∙ not-false _ (c .before .if3 .left)), c .values-fit .ensures, c .before .before .before .before .before .before .before .place .ensures)
+returns-4 c = rw (← parts (c .before .before .before .before .before), tests (c .before .before) ∙ not-false (c .before .before .before .before .model-fits .result && c .before .before .before .flags-fit .result && c .before .before .words-fit .result) (c .before .if3 .left), c .reference-fits .ensures, c .before .before .before .before .before .before .before .type-in .ensures, c .before .before .before .before .before .before .before .before .before .before .place .ensures)
 
 pub sound-instance-spec : {M : Type 1} → statement M
 sound-instance-spec =
@@ -51,9 +73,12 @@ sound-instance-spec =
     shared-slice-read-h
     no-values-requires
     returns
-    header-fits-requires
+    type-in-requires
+    is-type-requires
     returns-2
+    model-fits-requires
     flags-fit-requires
+    words-fit-requires
     returns-3
-    values-fit-requires
+    reference-fits-requires
     returns-4)

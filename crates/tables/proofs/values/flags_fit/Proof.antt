@@ -5,21 +5,25 @@ use borrow.Author.Needs.{needs}
 use Rattle.tables.proofs.values.flags_fit.Statement.{statement}
 use Rattle.tables.proofs.values.flags_fit.Tie as tie
 
-flags-in-requires : tie.Need-flags-in-requires
-flags-in-requires c κs = search needs
+cast-result : tie.Need-cast-result
+cast-result c = search needs
 
-type-in-requires : tie.Need-type-in-requires
-type-in-requires c κs = search needs
+shr-result : tie.Need-shr-result
+shr-result c = search needs
 
 attributes-requires : tie.Need-attributes-requires
 attributes-requires c κs = search needs
 
-shr-result : tie.Need-shr-result
-shr-result c = omega (arith, c .attributes .ensures, attributes-few (c .before .type-in .result))
+cast-result-2 : tie.Need-cast-result-2
+cast-result-2 c = search needs
+
+shr-result-2 : tie.Need-shr-result-2
+shr-result-2 c = omega (arith, c .attributes .ensures, attributes-few (c .before .args .ty))
 
 returns : tie.Need-returns
-returns c = rw (c .before .before .flags-in .ensures, c .attributes .ensures, c .before .type-in .ensures)
+returns c = rw (c .attributes .ensures)
 
 pub flags-fit-spec : {M : Type 1} → statement M
 flags-fit-spec =
-    tie.close (tie.spec flags-in-requires type-in-requires attributes-requires shr-result returns)
+    tie.close
+    (tie.spec cast-result shr-result attributes-requires cast-result-2 shr-result-2 returns)

@@ -1,30 +1,65 @@
--- Each kind of attribute by its case of the definition.
+-- A flag that is set is that of one of the four values, so the word is there.
+use mathlib.Core.Path.{_≡_, sym, _∙_}
+use mathlib.Core.Bool.{true}
+use Prim.Native.Nat.{_+_}
+use native.Mathlib.Omega.{arith}
+use borrow.Author.Tests.{not-true, not-false, ltb-true}
+use lib.Dec.{ltb}
+use Rattle.words.specs.Fields.{values, flagged}
+use Rattle.words.specs.Laws.Bools.{and-left}
 use borrow.Author.Needs.{needs}
 use Rattle.tables.proofs.values.reference_fits.Statement.{statement}
 use Rattle.tables.proofs.values.reference_fits.Tie as tie
 
-enum-told : tie.Need-enum-told
-enum-told c = search needs
+set : (c : tie.Else1) → flagged (c .before .before .before .before .args .h) (c .before .before .reference .result) ≡ true
+set c = sym (c .before .is-flagged .ensures) ∙ not-false _ (c .if1 .left)
 
-enum-told-2 : tie.Need-enum-told-2
-enum-told-2 c = search needs
+reference-requires : tie.Need-reference-requires
+reference-requires c κs = search needs
 
-enum-known-a : tie.Need-enum-known-a
-enum-known-a c = search needs
+is-flagged-requires : tie.Need-is-flagged-requires
+is-flagged-requires c κs = search needs
+
+returns : tie.Need-returns
+returns c = rw (← c .before .before .reference .ensures, sym (c .before .is-flagged .ensures) ∙ not-true _ (c .if1 .taken))
+
+targets-requires : tie.Need-targets-requires
+targets-requires c κs = search needs
+
+add-is-target : tie.Need-add-is-target
+add-is-target c = search needs
+
+cast-is-target : tie.Need-cast-is-target
+cast-is-target c = search needs
+
+add-is-target-2 : tie.Need-add-is-target-2
+add-is-target-2 c = search needs
+
+mul-is-target : tie.Need-mul-is-target
+mul-is-target c = search needs
+
+shared-slice-read-is-target : tie.Need-shared-slice-read-is-target
+shared-slice-read-is-target c = omega (arith, c .before .before .before .before .before .before .pre .0, ltb-true (c .before .before .before .before .reference .result) values (and-left (ltb (c .before .before .before .before .reference .result) values) _ (set (c .before .before))))
 
 is-target-requires : tie.Need-is-target-requires
 is-target-requires c κs = search needs
 
-returns : tie.Need-returns
-returns c = search needs
-
 returns-2 : tie.Need-returns-2
-returns-2 c = search needs
-
-returns-3 : tie.Need-returns-3
-returns-3 c = rw (c .before .before .a .given .1) (c .is-target .ensures)
+returns-2 c = let place : c .before .before .before .before .before .before .before .args .at + 1 + c .before .before .before .before .before .reference .result ≡ c .before .before .before .before .before .before .before .args .at + (1 + c .before .before .before .before .before .reference .result) = omega arith in
+    rw (← c .before .before .before .before .before .reference .ensures, set (c .before .before .before), c .is-target .ensures, c .before .before .targets .ensures, place)
 
 pub reference-fits-spec : {M : Type 1} → statement M
 reference-fits-spec =
     tie.close
-    (tie.spec enum-told enum-told-2 enum-known-a is-target-requires returns returns-2 returns-3)
+    (tie.spec
+    reference-requires
+    is-flagged-requires
+    returns
+    targets-requires
+    add-is-target
+    cast-is-target
+    add-is-target-2
+    mul-is-target
+    shared-slice-read-is-target
+    is-target-requires
+    returns-2)

@@ -1,0 +1,20 @@
+// Document 01's cases at the edges that are not proved one by one, and what it calls easy to get wrong: each is run from
+// fresh, through `call`, so every state on the way is judged too. A case prints its name and then each call that it is
+// about, with the value or the refusal by its name. The calls that only lead there print nothing unless they are refused.
+mod asking;
+mod deletions;
+mod events;
+mod instances;
+mod models;
+mod printing;
+mod references;
+mod schema_instances;
+
+fn main() {
+    models::run();
+    schema_instances::run();
+    instances::run();
+    references::run();
+    deletions::run();
+    events::run();
+}

@@ -1,0 +1,110 @@
+// What the program prints: names of cases, calls with their answers, events.
+ghost use Prim.Native.Nat.{_≤_};
+use libc::STDOUT_FILENO;
+use session::refusals;
+use session::state::Log;
+
+fn text(bytes: &[u8]) {
+    io::write_all(STDOUT_FILENO, bytes);
+}
+
+fn number_after(bytes: &[u8], n: u32) {
+    text(bytes);
+    io::print_decimal(STDOUT_FILENO, n as u64);
+}
+
+// The name of a case.
+pub fn title(name: &[u8]) {
+    text(name);
+    text(b"\n");
+}
+
+// A refusal by the page's name, with blanks up to seven letters.
+fn name(refusal: u32) -> [u8; 7] {
+    match refusal {
+        refusals::SY_ERR => *b"SY_ERR ",
+        refusals::FN_NAVL => *b"FN_NAVL",
+        refusals::SS_OPN => *b"SS_OPN ",
+        refusals::SS_NOPN => *b"SS_NOPN",
+        refusals::TR_EAB => *b"TR_EAB ",
+        refusals::TR_EXS => *b"TR_EXS ",
+        refusals::TR_NEXS => *b"TR_NEXS",
+        refusals::TR_NAVL => *b"TR_NAVL",
+        refusals::TR_NRW => *b"TR_NRW ",
+        refusals::RP_NEXS => *b"RP_NEXS",
+        refusals::RP_OPN => *b"RP_OPN ",
+        refusals::RP_NOPN => *b"RP_NOPN",
+        refusals::MO_NEXS => *b"MO_NEXS",
+        refusals::MO_DUP => *b"MO_DUP ",
+        refusals::MO_NDEQ => *b"MO_NDEQ",
+        refusals::MO_NVLD => *b"MO_NVLD",
+        refusals::MX_RO => *b"MX_RO  ",
+        refusals::MX_RW => *b"MX_RW  ",
+        refusals::MX_NDEF => *b"MX_NDEF",
+        refusals::MX_NRW => *b"MX_NRW ",
+        refusals::SD_NDEF => *b"SD_NDEF",
+        refusals::SI_NEXS => *b"SI_NEXS",
+        refusals::SI_DUP => *b"SI_DUP ",
+        refusals::ED_NDEF => *b"ED_NDEF",
+        refusals::ED_NDEQ => *b"ED_NDEQ",
+        refusals::ED_NVLD => *b"ED_NVLD",
+        refusals::EI_NEXS => *b"EI_NEXS",
+        refusals::AT_NDEF => *b"AT_NDEF",
+        refusals::VA_NSET => *b"VA_NSET",
+        refusals::VA_NVLD => *b"VA_NVLD",
+        refusals::VT_NVLD => *b"VT_NVLD",
+        refusals::NO_ROOM => *b"NO_ROOM",
+        _ => *b"no name",
+    }
+}
+
+// The letters of a name, without the blanks after them.
+fn letters(name: [u8; 7]) -> usize
+    ensures { λ r. ⌜ r ≤ 7 ⌝ }
+{
+    if name[5] == 0x20 {
+        return 5;
+    }
+    if name[6] == 0x20 {
+        return 6;
+    }
+    7
+}
+
+fn refusal_after(bytes: &[u8], refusal: u32) {
+    let name = name(refusal);
+    let n = letters(name);
+    text(bytes);
+    text(&name[0..n]);
+}
+
+// A call: its operation and arguments, and its value or its refusal.
+pub fn line(op: u32, a: u32, b: u32, c: u32, refusal: u32, value: u32) {
+    number_after(b"  ", op);
+    number_after(b"(", a);
+    number_after(b", ", b);
+    number_after(b", ", c);
+    if refusal == refusals::DONE {
+        number_after(b"): ", value);
+    } else {
+        refusal_after(b"): ", refusal);
+    }
+    text(b"\n");
+}
+
+fn event(op: u32, refusal: u32) {
+    number_after(b"  ", op);
+    refusal_after(b": ", refusal);
+    text(b"\n");
+}
+
+// The events of a full log, the oldest first.
+pub fn events(log: Log) {
+    let places = log.events;
+    let mut i: usize = 0;
+    while i < 16 {
+        let e = places[i];
+        event(e.op, e.refusal);
+        i += 1;
+    }
+}

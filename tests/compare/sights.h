@@ -1,0 +1,13 @@
+/* Places that a walk is to see and that no pair of operation and answer tells of. */
+#ifndef SIGHTS_H
+#define SIGHTS_H
+
+#include "call.h"
+
+/* Counts what this call saw. `working` is the table after it. */
+void see(const call *asked, const chip_session *before, const chip_answer *answer, const uint64_t *working);
+
+/* Prints how many sights were seen and, if asked, the names of the others; returns how many others. */
+int print_sights(int names);
+
+#endif

@@ -1,0 +1,849 @@
+/* The order is that of document 01: words, dictionary, soundness, operations. */
+#include "model.h"
+
+#include "dictionary.h"
+
+#include <string.h>
+
+#define TABLE_BYTES (CHIP_WORDS * sizeof(uint64_t))
+
+static int has(uint64_t set, uint32_t member)
+{
+    return (int)(set >> member & 1);
+}
+
+static uint64_t only(uint32_t member)
+{
+    return (uint64_t)1 << member;
+}
+
+/* ---- Words of a table ---- */
+
+/* "name + 2^32 * repository + 2^40 * schema", for models and schema instances. */
+static uint64_t entry_word(uint32_t repository, uint32_t schema, uint32_t name)
+{
+    return name | (uint64_t)repository << 32 | (uint64_t)schema << 40;
+}
+
+static uint32_t repository_of(uint64_t entry)
+{
+    return (uint32_t)(entry >> 32 & 0xff);
+}
+
+static uint32_t schema_of(uint64_t entry)
+{
+    return (uint32_t)(entry >> 40);
+}
+
+/* Name and repository in one; the schema does not count. */
+static uint64_t full_name_of(uint64_t entry)
+{
+    return entry & 0xffffffffff;
+}
+
+/* "1 + type + 2^8 * model + 2^16 * flags", for instances. A low byte of 0 gives a type above all. */
+static uint32_t type_of(uint64_t header)
+{
+    return (uint32_t)(header & 0xff) - 1;
+}
+
+static uint32_t model_of(uint64_t header)
+{
+    return (uint32_t)(header >> 8 & 0xff);
+}
+
+static uint64_t flags_of(uint64_t header)
+{
+    return header >> 16;
+}
+
+static void set_value(uint64_t *instance, uint32_t attribute, uint32_t value)
+{
+    instance[0] |= only(16 + attribute);
+    instance[1 + attribute] = value;
+}
+
+static void unset_value(uint64_t *instance, uint32_t attribute)
+{
+    instance[0] &= ~only(16 + attribute);
+    instance[1 + attribute] = 0;
+}
+
+/* ---- The dictionary ---- */
+
+static int is_subtype_of(uint32_t type, uint32_t other)
+{
+    return has(dictionary[type].above, other);
+}
+
+static const entity_type *definition_of(uint64_t header)
+{
+    return &dictionary[type_of(header)];
+}
+
+/* ---- Sound tables and a sound session ---- */
+
+#define BUCKETS 128
+
+/* "Every entry is free or well formed; names are unique among the models of one repository and among its schema
+ * instances." Entries are `stride` words apart; the live ones of each schema go into `live`. Each is compared with
+ * those of its bucket alone, which are chained by their numbers from 1. */
+static int entries_sound(const uint64_t *entries, size_t stride, uint32_t count, uint64_t live[3])
+{
+    uint8_t last[BUCKETS] = {0};
+    uint8_t before[CHIP_MODELS + 1];
+    for (uint32_t n = 0; n < count; n++) {
+        uint64_t entry = entries[n * stride];
+        if (entry == 0)
+            continue;
+        if (schema_of(entry) - 1 > 1 || repository_of(entry) >= CHIP_REPOSITORIES)
+            return 0;
+        uint8_t *bucket = &last[full_name_of(entry) * 0x9e3779b97f4a7c15 >> 57];
+        for (uint32_t other = *bucket; other != 0; other = before[other])
+            if (full_name_of(entries[(other - 1) * stride]) == full_name_of(entry))
+                return 0;
+        before[n + 1] = *bucket;
+        *bucket = (uint8_t)(n + 1);
+        live[schema_of(entry)] |= only(n);
+    }
+    return 1;
+}
+
+/* "A set names only live models of the same schema." A free schema instance has schema 0, of which no model is. */
+static int sets_sound(const uint64_t *schema_instances, const uint64_t live[3])
+{
+    for (uint32_t s = 0; s < CHIP_SCHEMA_INSTANCES; s++)
+        if (schema_instances[2 * s + 1] & ~live[schema_of(schema_instances[2 * s])])
+            return 0;
+    return 1;
+}
+
+/* "A set reference names a live instance of the right type." */
+static int reference_sound(const uint64_t *table, uint64_t target, uint32_t wanted)
+{
+    if (target >= CHIP_INSTANCES)
+        return 0;
+    uint32_t type = type_of(table[CHIP_INSTANCE_AT(target)]);
+    return type < CHIP_TYPES && is_subtype_of(type, wanted);
+}
+
+static int instance_sound(const uint64_t *table, const uint64_t *instance, const uint64_t live[3])
+{
+    uint64_t header = instance[0];
+    if (header == 0)
+        return (instance[1] | instance[2] | instance[3] | instance[4]) == 0;
+    if (type_of(header) >= CHIP_TYPES || model_of(header) >= CHIP_MODELS)
+        return 0;
+    const entity_type *type = definition_of(header);
+    uint64_t flags = flags_of(header);
+    if (flags >> type->attributes || !has(live[type->schema], model_of(header)))
+        return 0;
+    uint64_t excess = 0; /* of values that are set at 2^32, of others at 1 */
+    for (uint32_t k = 0; k < CHIP_ATTRIBUTES; k++)
+        excess |= instance[1 + k] >> (has(flags, k) ? 32 : 0);
+    if (excess)
+        return 0;
+    return !has(flags, type->reference) || reference_sound(table, instance[1 + type->reference], type->target);
+}
+
+static int table_sound(const uint64_t *table)
+{
+    uint64_t live[3] = {0};
+    uint64_t unused[3] = {0};
+    const uint64_t *schema_instances = table + CHIP_SCHEMA_INSTANCE_AT(0);
+    if (!entries_sound(table, 1, CHIP_MODELS, live) ||
+        !entries_sound(schema_instances, 2, CHIP_SCHEMA_INSTANCES, unused) ||
+        !sets_sound(schema_instances, live))
+        return 0;
+    for (uint32_t i = 0; i < CHIP_INSTANCES; i++)
+        if (!instance_sound(table, table + CHIP_INSTANCE_AT(i), live))
+            return 0;
+    return 1;
+}
+
+/* "At most 16 events (any operation number, a refusal from 2 to 32). Unused event places are blank." */
+static int events_sound(const chip_session *session)
+{
+    if (session->count > CHIP_EVENTS)
+        return 0;
+    for (uint32_t e = 0; e < CHIP_EVENTS; e++) {
+        const chip_event *event = &session->events[e];
+        if (e < session->count ? event->refusal < CHIP_FN_NAVL || event->refusal > CHIP_NO_ROOM
+                               : (event->op | event->refusal) != 0)
+            return 0;
+    }
+    return 1;
+}
+
+/* "These sets share no model, name only live working models of open repositories, are empty under none and aborted,
+ * and RW access exists only under RW." */
+static int access_sound(const chip_session *session, const uint64_t *working)
+{
+    uint64_t access = session->ro | session->rw;
+    if (session->ro & session->rw)
+        return 0;
+    if (session->rw && session->transaction != CHIP_RW)
+        return 0;
+    if (access && session->transaction != CHIP_RW && session->transaction != CHIP_RO)
+        return 0;
+    for (uint32_t m = 0; m < CHIP_MODELS; m++)
+        if (has(access, m) && (working[m] == 0 || !has(session->repositories, repository_of(working[m]))))
+            return 0;
+    return 1;
+}
+
+/* All that the session holds but its access. */
+static int session_sound(const chip_session *session)
+{
+    if (session->opened > 1 || session->recording > 1 || session->transaction > CHIP_ABORTED ||
+        session->repositories >> CHIP_REPOSITORIES)
+        return 0;
+    if (!session->opened && (session->recording || session->transaction || session->repositories || session->count))
+        return 0;
+    return events_sound(session);
+}
+
+static int sound(const chip_session *session, const uint64_t *working, size_t working_words,
+                 const uint64_t *kept, size_t kept_words)
+{
+    if (working_words < CHIP_WORDS || kept_words < CHIP_WORDS)
+        return 0;
+    if (!session_sound(session) || !table_sound(working) || !access_sound(session, working))
+        return 0;
+    return session->transaction == CHIP_RW ? table_sound(kept) : memcmp(working, kept, TABLE_BYTES) == 0;
+}
+
+/* ---- Operations ----
+ *
+ * Each returns its refusal, all of which come before the first change. */
+
+typedef struct machine {
+    chip_session *session;
+    uint64_t *working;
+    uint64_t *kept;
+    uint32_t value;
+} machine;
+
+static int is_live_model(const machine *on, uint32_t model)
+{
+    return model < CHIP_MODELS && on->working[model] != 0;
+}
+
+static int is_live_schema_instance(const machine *on, uint32_t number)
+{
+    return number < CHIP_SCHEMA_INSTANCES && on->working[CHIP_SCHEMA_INSTANCE_AT(number)] != 0;
+}
+
+static int is_live_instance(const machine *on, uint32_t number)
+{
+    return number < CHIP_INSTANCES && on->working[CHIP_INSTANCE_AT(number)] != 0;
+}
+
+static uint64_t *instance_at(const machine *on, uint32_t number)
+{
+    return on->working + CHIP_INSTANCE_AT(number);
+}
+
+static int is_open(const machine *on, uint32_t repository)
+{
+    return has(on->session->repositories, repository);
+}
+
+static void take_back_changes(machine *on)
+{
+    if (on->session->transaction == CHIP_RW)
+        memcpy(on->working, on->kept, TABLE_BYTES);
+}
+
+static void keep_changes(machine *on)
+{
+    if (on->session->transaction == CHIP_RW)
+        memcpy(on->kept, on->working, TABLE_BYTES);
+}
+
+static void end_all_access(machine *on)
+{
+    on->session->ro = 0;
+    on->session->rw = 0;
+}
+
+static void leave_transaction(machine *on, uint32_t state)
+{
+    end_all_access(on);
+    on->session->transaction = state;
+}
+
+static uint32_t open_session(machine *on)
+{
+    on->session->opened = 1;
+    on->session->recording = 1;
+    return CHIP_DONE;
+}
+
+static uint32_t close_session(machine *on)
+{
+    take_back_changes(on);
+    *on->session = (chip_session){0};
+    return CHIP_DONE;
+}
+
+static uint32_t open_repository(machine *on, uint32_t repository)
+{
+    if (repository >= CHIP_REPOSITORIES)
+        return CHIP_RP_NEXS;
+    if (is_open(on, repository))
+        return CHIP_RP_OPN;
+    on->session->repositories |= only(repository);
+    return CHIP_DONE;
+}
+
+/* TR_EAB TR_EXS, of 4, 5 and 6. */
+static uint32_t refusal_in_transaction(const machine *on)
+{
+    switch (on->session->transaction) {
+    case CHIP_NONE: return CHIP_DONE;
+    case CHIP_ABORTED: return CHIP_TR_EAB;
+    default: return CHIP_TR_EXS;
+    }
+}
+
+/* TR_EAB and the one for none, of 7, 8, 9 and 13. */
+static uint32_t refusal_out_of_transaction(const machine *on, uint32_t none)
+{
+    switch (on->session->transaction) {
+    case CHIP_NONE: return none;
+    case CHIP_ABORTED: return CHIP_TR_EAB;
+    default: return CHIP_DONE;
+    }
+}
+
+static uint32_t close_repository(machine *on, uint32_t repository)
+{
+    uint32_t refusal = refusal_in_transaction(on);
+    if (refusal)
+        return refusal;
+    if (repository >= CHIP_REPOSITORIES)
+        return CHIP_RP_NEXS;
+    if (!is_open(on, repository))
+        return CHIP_RP_NOPN;
+    on->session->repositories &= ~only(repository);
+    return CHIP_DONE;
+}
+
+static uint32_t start_transaction(machine *on, uint32_t mode)
+{
+    uint32_t refusal = refusal_in_transaction(on);
+    if (refusal)
+        return refusal;
+    on->session->transaction = mode;
+    return CHIP_DONE;
+}
+
+static uint32_t commit(machine *on)
+{
+    uint32_t refusal = refusal_out_of_transaction(on, CHIP_TR_NEXS);
+    if (refusal)
+        return refusal;
+    if (on->session->transaction == CHIP_RO)
+        return CHIP_TR_NRW;
+    keep_changes(on);
+    return CHIP_DONE;
+}
+
+static uint32_t abort_changes(machine *on)
+{
+    uint32_t refusal = refusal_out_of_transaction(on, CHIP_TR_NEXS);
+    if (refusal)
+        return refusal;
+    if (on->session->transaction == CHIP_RO)
+        return CHIP_TR_NRW;
+    take_back_changes(on);
+    end_all_access(on);
+    return CHIP_DONE;
+}
+
+static uint32_t end_transaction_commit(machine *on)
+{
+    uint32_t refusal = refusal_out_of_transaction(on, CHIP_TR_NEXS);
+    if (refusal)
+        return refusal;
+    keep_changes(on);
+    leave_transaction(on, CHIP_NONE);
+    return CHIP_DONE;
+}
+
+static uint32_t end_transaction_abort(machine *on)
+{
+    if (on->session->transaction == CHIP_NONE)
+        return CHIP_TR_NEXS;
+    take_back_changes(on);
+    leave_transaction(on, CHIP_NONE);
+    return CHIP_DONE;
+}
+
+static uint32_t start_recording(machine *on)
+{
+    on->session->recording = 1;
+    on->value = 1;
+    return CHIP_DONE;
+}
+
+static uint32_t stop_recording(machine *on)
+{
+    on->value = on->session->recording;
+    on->session->recording = 0;
+    return CHIP_DONE;
+}
+
+static uint32_t storage_fault(machine *on)
+{
+    uint32_t refusal = refusal_out_of_transaction(on, CHIP_TR_NAVL);
+    if (refusal)
+        return refusal;
+    take_back_changes(on);
+    leave_transaction(on, CHIP_ABORTED);
+    return CHIP_DONE;
+}
+
+/* A new model or schema instance. "A creation takes the lowest free number"; a taken name comes before NO_ROOM. */
+static uint32_t create_entry(machine *on, uint64_t *entries, size_t stride, uint32_t count, uint32_t duplicate,
+                             uint32_t repository, uint32_t schema, uint32_t name)
+{
+    if (repository >= CHIP_REPOSITORIES)
+        return CHIP_RP_NEXS;
+    if (!is_open(on, repository))
+        return CHIP_RP_NOPN;
+    if (schema != 1 && schema != 2)
+        return CHIP_SD_NDEF;
+    uint64_t created = entry_word(repository, schema, name);
+    uint32_t lowest = count;
+    for (uint32_t n = count; n-- > 0;) {
+        uint64_t entry = entries[n * stride];
+        if (entry == 0)
+            lowest = n;
+        else if (full_name_of(entry) == full_name_of(created))
+            return duplicate;
+    }
+    if (lowest == count)
+        return CHIP_NO_ROOM;
+    entries[lowest * stride] = created;
+    on->value = lowest;
+    return CHIP_DONE;
+}
+
+static uint32_t create_model(machine *on, uint32_t repository, uint32_t schema, uint32_t name)
+{
+    return create_entry(on, on->working, 1, CHIP_MODELS, CHIP_MO_DUP, repository, schema, name);
+}
+
+static uint32_t create_schema_instance(machine *on, uint32_t repository, uint32_t schema, uint32_t name)
+{
+    return create_entry(on, on->working + CHIP_SCHEMA_INSTANCE_AT(0), 2, CHIP_SCHEMA_INSTANCES, CHIP_SI_DUP,
+                        repository, schema, name);
+}
+
+/* A set of instance numbers. */
+typedef struct instance_set {
+    uint64_t half[2];
+} instance_set;
+
+static int holds(const instance_set *set, uint64_t number)
+{
+    return has(set->half[number / 64], number % 64);
+}
+
+static void include(instance_set *set, uint32_t number)
+{
+    set->half[number / 64] |= only(number % 64);
+}
+
+static int refers_into(const uint64_t *instance, const instance_set *going)
+{
+    if (instance[0] == 0)
+        return 0;
+    uint32_t reference = definition_of(instance[0])->reference;
+    return has(flags_of(instance[0]), reference) && holds(going, instance[1 + reference]);
+}
+
+/* "MX_NRW by 21 and 41 also if an instance that stays, in another model without RW access, refers to one that would
+ * go." Else the instances go and "references to them become unset". */
+static uint32_t delete_instances(machine *on, const instance_set *going)
+{
+    instance_set referrers = {{0}};
+    for (uint32_t i = 0; i < CHIP_INSTANCES; i++) {
+        const uint64_t *instance = instance_at(on, i);
+        if (holds(going, i) || !refers_into(instance, going))
+            continue;
+        if (!has(on->session->rw, model_of(instance[0])))
+            return CHIP_MX_NRW;
+        include(&referrers, i);
+    }
+    for (uint32_t i = 0; i < CHIP_INSTANCES; i++) {
+        uint64_t *instance = instance_at(on, i);
+        if (holds(going, i))
+            memset(instance, 0, 5 * sizeof *instance);
+        else if (holds(&referrers, i))
+            unset_value(instance, definition_of(instance[0])->reference);
+    }
+    return CHIP_DONE;
+}
+
+static uint32_t delete_model(machine *on, uint32_t model)
+{
+    if (!is_live_model(on, model))
+        return CHIP_MO_NEXS;
+    if (!has(on->session->rw, model))
+        return CHIP_MX_NRW;
+    instance_set going = {{0}};
+    for (uint32_t i = 0; i < CHIP_INSTANCES; i++)
+        if (is_live_instance(on, i) && model_of(*instance_at(on, i)) == model)
+            include(&going, i);
+    uint32_t refusal = delete_instances(on, &going);
+    if (refusal)
+        return refusal;
+    on->working[model] = 0;
+    for (uint32_t s = 0; s < CHIP_SCHEMA_INSTANCES; s++)
+        on->working[CHIP_SCHEMA_INSTANCE_AT(s) + 1] &= ~only(model);
+    on->session->rw &= ~only(model);
+    return CHIP_DONE;
+}
+
+static int model_is_open(const machine *on, uint32_t model)
+{
+    return is_open(on, repository_of(on->working[model]));
+}
+
+static int has_access(const machine *on, uint32_t model)
+{
+    return has(on->session->ro | on->session->rw, model);
+}
+
+/* 22 and 23; a model has one access at most, so the order of MX_RO and MX_RW does not matter. */
+static uint32_t start_access(machine *on, uint32_t model, uint64_t *access)
+{
+    if (!is_live_model(on, model))
+        return CHIP_MO_NEXS;
+    if (!model_is_open(on, model))
+        return CHIP_RP_NOPN;
+    if (has(on->session->ro, model))
+        return CHIP_MX_RO;
+    if (has(on->session->rw, model))
+        return CHIP_MX_RW;
+    *access |= only(model);
+    return CHIP_DONE;
+}
+
+static uint32_t end_access(machine *on, uint32_t model)
+{
+    if (!is_live_model(on, model))
+        return CHIP_MO_NEXS;
+    if (!has_access(on, model))
+        return CHIP_MX_NDEF;
+    on->session->ro &= ~only(model);
+    on->session->rw &= ~only(model);
+    return CHIP_DONE;
+}
+
+/* SI_NEXS RP_NOPN, of 31 to 33. */
+static uint32_t schema_instance_refusal(const machine *on, uint32_t number)
+{
+    if (!is_live_schema_instance(on, number))
+        return CHIP_SI_NEXS;
+    if (!is_open(on, repository_of(on->working[CHIP_SCHEMA_INSTANCE_AT(number)])))
+        return CHIP_RP_NOPN;
+    return CHIP_DONE;
+}
+
+static uint32_t delete_schema_instance(machine *on, uint32_t number)
+{
+    uint32_t refusal = schema_instance_refusal(on, number);
+    if (refusal)
+        return refusal;
+    on->working[CHIP_SCHEMA_INSTANCE_AT(number)] = 0;
+    on->working[CHIP_SCHEMA_INSTANCE_AT(number) + 1] = 0;
+    return CHIP_DONE;
+}
+
+/* "Models now in the set." */
+static uint32_t members(uint64_t set)
+{
+    uint32_t count = 0;
+    for (; set != 0; set &= set - 1)
+        count++;
+    return count;
+}
+
+static uint32_t add_model(machine *on, uint32_t number, uint32_t model)
+{
+    uint32_t refusal = schema_instance_refusal(on, number);
+    if (refusal)
+        return refusal;
+    if (!is_live_model(on, model))
+        return CHIP_MO_NEXS;
+    if (!model_is_open(on, model))
+        return CHIP_RP_NOPN;
+    uint64_t *schema_instance = on->working + CHIP_SCHEMA_INSTANCE_AT(number);
+    if (schema_of(on->working[model]) != schema_of(schema_instance[0]))
+        return CHIP_MO_NDEQ;
+    schema_instance[1] |= only(model);
+    on->value = members(schema_instance[1]);
+    return CHIP_DONE;
+}
+
+static uint32_t remove_model(machine *on, uint32_t number, uint32_t model)
+{
+    uint32_t refusal = schema_instance_refusal(on, number);
+    if (refusal)
+        return refusal;
+    if (!is_live_model(on, model))
+        return CHIP_MO_NEXS;
+    uint64_t *set = on->working + CHIP_SCHEMA_INSTANCE_AT(number) + 1;
+    if (!has(*set, model))
+        return CHIP_MO_NVLD;
+    *set &= ~only(model);
+    on->value = members(*set);
+    return CHIP_DONE;
+}
+
+static uint32_t create_instance(machine *on, uint32_t model, uint32_t type)
+{
+    if (!is_live_model(on, model))
+        return CHIP_MO_NEXS;
+    if (!has(on->session->rw, model))
+        return CHIP_MX_NRW;
+    if (type >= CHIP_TYPES)
+        return CHIP_ED_NDEF;
+    if (dictionary[type].schema != schema_of(on->working[model]))
+        return CHIP_ED_NVLD;
+    uint32_t lowest = 0;
+    while (is_live_instance(on, lowest))
+        lowest++;
+    if (lowest == CHIP_INSTANCES)
+        return CHIP_NO_ROOM;
+    *instance_at(on, lowest) = 1 + type + (model << 8);
+    on->value = lowest;
+    return CHIP_DONE;
+}
+
+/* EI_NEXS MX_NRW, of 41, 44 and 45. */
+static uint32_t write_refusal(const machine *on, uint32_t number)
+{
+    if (!is_live_instance(on, number))
+        return CHIP_EI_NEXS;
+    if (!has(on->session->rw, model_of(*instance_at(on, number))))
+        return CHIP_MX_NRW;
+    return CHIP_DONE;
+}
+
+static uint32_t delete_instance(machine *on, uint32_t number)
+{
+    uint32_t refusal = write_refusal(on, number);
+    if (refusal)
+        return refusal;
+    instance_set going = {{0}};
+    include(&going, number);
+    return delete_instances(on, &going);
+}
+
+static int has_attribute(const uint64_t *instance, uint32_t attribute)
+{
+    return attribute < definition_of(instance[0])->attributes;
+}
+
+/* EI_NEXS RP_NOPN MX_NDEF AT_NDEF, of 42 and 43. */
+static uint32_t read_refusal(const machine *on, uint32_t number, uint32_t attribute)
+{
+    if (!is_live_instance(on, number))
+        return CHIP_EI_NEXS;
+    const uint64_t *instance = instance_at(on, number);
+    if (!model_is_open(on, model_of(instance[0])))
+        return CHIP_RP_NOPN;
+    if (!has_access(on, model_of(instance[0])))
+        return CHIP_MX_NDEF;
+    if (!has_attribute(instance, attribute))
+        return CHIP_AT_NDEF;
+    return CHIP_DONE;
+}
+
+static uint32_t get_attribute(machine *on, uint32_t number, uint32_t attribute)
+{
+    uint32_t refusal = read_refusal(on, number, attribute);
+    if (refusal)
+        return refusal;
+    const uint64_t *instance = instance_at(on, number);
+    if (!has(flags_of(instance[0]), attribute))
+        return CHIP_VA_NSET;
+    on->value = (uint32_t)instance[1 + attribute];
+    return CHIP_DONE;
+}
+
+static uint32_t test_attribute(machine *on, uint32_t number, uint32_t attribute)
+{
+    uint32_t refusal = read_refusal(on, number, attribute);
+    if (refusal)
+        return refusal;
+    on->value = (uint32_t)has(flags_of(*instance_at(on, number)), attribute);
+    return CHIP_DONE;
+}
+
+/* "The same or in one set with it": any live schema instance will do, and a free one has the empty set. */
+static int share_a_set(const machine *on, uint32_t model, uint32_t other)
+{
+    uint64_t both = only(model) | only(other);
+    if (model == other)
+        return 1;
+    for (uint32_t s = 0; s < CHIP_SCHEMA_INSTANCES; s++)
+        if ((on->working[CHIP_SCHEMA_INSTANCE_AT(s) + 1] & both) == both)
+            return 1;
+    return 0;
+}
+
+/* VA_NVLD VT_NVLD MO_NVLD, of 44 for a reference. */
+static uint32_t reference_refusal(const machine *on, uint64_t from, uint32_t target)
+{
+    if (!is_live_instance(on, target))
+        return CHIP_VA_NVLD;
+    uint64_t to = *instance_at(on, target);
+    if (!is_subtype_of(type_of(to), definition_of(from)->target))
+        return CHIP_VT_NVLD;
+    if (!share_a_set(on, model_of(from), model_of(to)))
+        return CHIP_MO_NVLD;
+    return CHIP_DONE;
+}
+
+static uint32_t put_attribute(machine *on, uint32_t number, uint32_t attribute, uint32_t value)
+{
+    uint32_t refusal = write_refusal(on, number);
+    if (refusal)
+        return refusal;
+    uint64_t *instance = instance_at(on, number);
+    if (!has_attribute(instance, attribute))
+        return CHIP_AT_NDEF;
+    if (attribute == definition_of(instance[0])->reference)
+        refusal = reference_refusal(on, instance[0], value);
+    if (refusal)
+        return refusal;
+    set_value(instance, attribute, value);
+    return CHIP_DONE;
+}
+
+static uint32_t unset_attribute(machine *on, uint32_t number, uint32_t attribute)
+{
+    uint32_t refusal = write_refusal(on, number);
+    if (refusal)
+        return refusal;
+    uint64_t *instance = instance_at(on, number);
+    if (!has_attribute(instance, attribute))
+        return CHIP_AT_NDEF;
+    unset_value(instance, attribute);
+    return CHIP_DONE;
+}
+
+static uint32_t subtype_test(machine *on, uint32_t type, uint32_t other)
+{
+    if (type >= CHIP_TYPES || other >= CHIP_TYPES)
+        return CHIP_ED_NDEF;
+    if (dictionary[type].schema != dictionary[other].schema)
+        return CHIP_ED_NDEQ;
+    on->value = (uint32_t)is_subtype_of(type, other);
+    return CHIP_DONE;
+}
+
+/* ---- The order of the checks ---- */
+
+#define FROM_TO(first, last) (((uint64_t)2 << (last)) - ((uint64_t)1 << (first)))
+
+/* Bit n for operation n. */
+#define LISTED (FROM_TO(1, 13) | FROM_TO(20, 24) | FROM_TO(30, 33) | FROM_TO(40, 46))
+#define IN_TRANSACTION FROM_TO(20, 45)
+#define WRITERS (FROM_TO(20, 21) | FROM_TO(23, 23) | FROM_TO(30, 33) | FROM_TO(40, 41) | FROM_TO(44, 45))
+
+/* What is asked of every call, and the transaction of 20 to 45. */
+static uint32_t general_refusal(const chip_session *session, uint32_t op)
+{
+    if (op > CHIP_SUBTYPE_TEST || !has(LISTED, op))
+        return CHIP_FN_NAVL;
+    if (op == CHIP_OPEN_SESSION)
+        return session->opened ? CHIP_SS_OPN : CHIP_DONE;
+    if (!session->opened)
+        return CHIP_SS_NOPN;
+    if (!has(IN_TRANSACTION, op))
+        return CHIP_DONE;
+    if (session->transaction == CHIP_ABORTED)
+        return CHIP_TR_EAB;
+    if (session->transaction == CHIP_NONE)
+        return CHIP_TR_NAVL;
+    if (session->transaction == CHIP_RO && has(WRITERS, op))
+        return CHIP_TR_NRW;
+    return CHIP_DONE;
+}
+
+static uint32_t perform(machine *on, uint32_t op, uint32_t a, uint32_t b, uint32_t c)
+{
+    uint32_t refusal = general_refusal(on->session, op);
+    if (refusal)
+        return refusal;
+    switch (op) {
+    case CHIP_OPEN_SESSION: return open_session(on);
+    case CHIP_CLOSE_SESSION: return close_session(on);
+    case CHIP_OPEN_REPOSITORY: return open_repository(on, a);
+    case CHIP_CLOSE_REPOSITORY: return close_repository(on, a);
+    case CHIP_START_RW: return start_transaction(on, CHIP_RW);
+    case CHIP_START_RO: return start_transaction(on, CHIP_RO);
+    case CHIP_COMMIT: return commit(on);
+    case CHIP_ABORT: return abort_changes(on);
+    case CHIP_END_COMMIT: return end_transaction_commit(on);
+    case CHIP_END_ABORT: return end_transaction_abort(on);
+    case CHIP_RECORDING_ON: return start_recording(on);
+    case CHIP_RECORDING_OFF: return stop_recording(on);
+    case CHIP_STORAGE_FAULT: return storage_fault(on);
+    case CHIP_CREATE_MODEL: return create_model(on, a, b, c);
+    case CHIP_DELETE_MODEL: return delete_model(on, a);
+    case CHIP_RO_ACCESS: return start_access(on, a, &on->session->ro);
+    case CHIP_RW_ACCESS: return start_access(on, a, &on->session->rw);
+    case CHIP_END_ACCESS: return end_access(on, a);
+    case CHIP_CREATE_SCHEMA_INSTANCE: return create_schema_instance(on, a, b, c);
+    case CHIP_DELETE_SCHEMA_INSTANCE: return delete_schema_instance(on, a);
+    case CHIP_ADD_MODEL: return add_model(on, a, b);
+    case CHIP_REMOVE_MODEL: return remove_model(on, a, b);
+    case CHIP_CREATE_INSTANCE: return create_instance(on, a, b);
+    case CHIP_DELETE_INSTANCE: return delete_instance(on, a);
+    case CHIP_GET: return get_attribute(on, a, b);
+    case CHIP_TEST: return test_attribute(on, a, b);
+    case CHIP_PUT: return put_attribute(on, a, b, c);
+    case CHIP_UNSET: return unset_attribute(on, a, b);
+    default: return subtype_test(on, a, b);
+    }
+}
+
+/* "An event is added, the oldest of sixteen dropping out." */
+static void record_event(chip_session *session, uint32_t op, uint32_t refusal)
+{
+    if (session->count == CHIP_EVENTS) {
+        session->count--;
+        memmove(session->events, session->events + 1, session->count * sizeof *session->events);
+    }
+    session->events[session->count++] = (chip_event){op, refusal};
+}
+
+chip_answer model_core(uint32_t op, uint32_t a, uint32_t b, uint32_t c, chip_session session,
+                       uint64_t *working, size_t working_words,
+                       uint64_t *kept, size_t kept_words)
+{
+    (void)working_words;
+    (void)kept_words;
+    machine on = {&session, working, kept, 0};
+    uint32_t refusal = perform(&on, op, a, b, c);
+    if (refusal && session.recording)
+        record_event(&session, op, refusal);
+    return (chip_answer){refusal, on.value, session};
+}
+
+chip_answer model_call(uint32_t op, uint32_t a, uint32_t b, uint32_t c, chip_session session,
+                       uint64_t *working, size_t working_words,
+                       uint64_t *kept, size_t kept_words)
+{
+    if (!sound(&session, working, working_words, kept, kept_words))
+        return (chip_answer){CHIP_SY_ERR, 0, session};
+    return model_core(op, a, b, c, session, working, working_words, kept, kept_words);
+}
