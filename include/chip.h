@@ -37,7 +37,7 @@ extern "C" {
 #define CHIP_SCHEMA_INSTANCES 16
 #define CHIP_INSTANCES 128
 #define CHIP_TYPES 10            /* 0 to 9; 0 to 7 are of schema 1, 8 and 9 of schema 2 */
-#define CHIP_ATTRIBUTES 4        /* the most that a type has */
+#define CHIP_ATTRIBUTES 4        /* value words of an instance */
 
 #define CHIP_MODEL_AT(m) (m)
 #define CHIP_SCHEMA_INSTANCE_AT(s) (64 + 2 * (s))
@@ -60,17 +60,17 @@ typedef struct chip_event {
     uint32_t refusal;
 } chip_event;
 
-/* A session, as the caller holds it between calls. Every bit pattern is taken; one that no run of calls can give is
- * CHIP_SY_ERR. */
+/* A session, as the caller holds it between calls. Every bit pattern is taken; one that is not sound is CHIP_SY_ERR. The
+ * bytes between the fields carry nothing. */
 typedef struct chip_session {
-    uint32_t opened;       /* 1 if the session is open */
-    uint32_t recording;    /* 1 if refusals are recorded */
-    uint32_t transaction;  /* CHIP_NONE to CHIP_ABORTED */
-    uint64_t repositories; /* the open ones, bit r for repository r */
-    uint64_t ro;           /* models with read-only access, bit m for model m */
-    uint64_t rw;           /* models with read-write access */
-    uint32_t count;        /* how many events there are; the places after them are 0 */
     chip_event events[CHIP_EVENTS]; /* the oldest first */
+    uint32_t count;                 /* how many events there are; the places after them are 0 */
+    uint64_t repositories;          /* the open ones, bit r for repository r */
+    uint64_t ro;                    /* models with read-only access, bit m for model m */
+    uint64_t rw;                    /* models with read-write access */
+    uint32_t opened;                /* 1 if the session is open */
+    uint32_t recording;             /* 1 if refusals are recorded */
+    uint32_t transaction;           /* CHIP_NONE to CHIP_ABORTED */
 } chip_session;
 
 /* What a call answers. A refusal has value 0 and has changed no word of a table. */

@@ -1,3 +1,4 @@
+# shellcheck shell=sh
 # Where the Rattle kit stands, for the scripts beside this file: they read it by '. kit.sh' after they have set `me`.
 # A program that the kit links is for x86-64: elsewhere it runs under the kit's emulator, with the kit's C library.
 

@@ -16,12 +16,12 @@ pub const ABORTED: u32 = 3;
 // What the operations see and change. The sets have bit m for model m, bit r for repository r.
 #[repr(C)]
 pub struct State {
-    pub opened: u32,
-    pub recording: u32,
-    pub transaction: u32,
     pub repositories: u64,
     pub ro: u64,
     pub rw: u64,
+    pub opened: u32,
+    pub recording: u32,
+    pub transaction: u32,
 }
 
 // A refusal and the operation that it was given to.
@@ -34,14 +34,16 @@ pub struct Event {
 // The events that are recorded, oldest first: the first `count` places.
 #[repr(C)]
 pub struct Log {
-    pub count: u32,
     pub events: [Event; 16],
+    pub count: u32,
 }
 
+// The log stands first, so that it is copied in the same pieces of sixteen bytes in which a caller copies the whole: what
+// was just written is slow to read in pieces that straddle.
 #[repr(C)]
 pub struct Session {
-    pub state: State,
     pub log: Log,
+    pub state: State,
 }
 
 #[repr(C)]
