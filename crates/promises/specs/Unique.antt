@@ -77,7 +77,6 @@ use Rattle.tables.proofs.view.header_at.Reads as tables-view-header-at
 use Rattle.tables.proofs.view.is_set.Reads as tables-view-is-set
 use Rattle.tables.proofs.view.value_at.Reads as tables-view-value-at
 use Rattle.session.proofs.answers.unsound.Reads as session-answers-unsound
-use Rattle.session.proofs.answers.refused.Reads as session-answers-refused
 use Rattle.session.proofs.answers.finished.Reads as session-answers-finished
 use Rattle.session.proofs.call.core.Reads as session-call-core
 use Rattle.session.proofs.call.call.Reads as session-call-call
@@ -126,14 +125,13 @@ use Rattle.session.proofs.conditions.wrong_type.Reads as session-conditions-wro
 use Rattle.session.proofs.conditions.model_held.Reads as session-conditions-model-held
 use Rattle.session.proofs.conditions.instance_held.Reads as session-conditions-instance-held
 use Rattle.session.proofs.conditions.apart.Reads as session-conditions-apart
-use Rattle.session.proofs.effects.effect_of.Reads as session-effects-effect-of
+use Rattle.session.proofs.effects.perform.Reads as session-effects-perform
 use Rattle.session.proofs.events.blank_log.Reads as session-events-blank-log
 use Rattle.session.proofs.events.added.Reads as session-events-added
 use Rattle.session.proofs.events.noted.Reads as session-events-noted
 use Rattle.session.proofs.gate.family.Reads as session-gate-family
 use Rattle.session.proofs.gate.gate.Reads as session-gate-gate
 use Rattle.session.proofs.operations.operation_of.Reads as session-operations-operation-of
-use Rattle.session.proofs.refusal.refusal.Reads as session-refusal-refusal
 use Rattle.session.proofs.state.is_open.Reads as session-state-is-open
 use Rattle.session.proofs.state.under.Reads as session-state-under
 use Rattle.session.proofs.state.with_recording.Reads as session-state-with-recording
@@ -377,9 +375,6 @@ tables-view-value-at-one κs a x y s s′ p q = p ∙ sym q
 pub session-answers-unsound-one : (κs : _) (a : _) (x y : _) (s s′ : _) → session-answers-unsound.Post κs a x s → session-answers-unsound.Post κs a y s′ → x ≡ y
 session-answers-unsound-one κs a x y s s′ p q = p ∙ sym q
 
-pub session-answers-refused-one : (κs : _) (a : _) (x y : _) (s s′ : _) → session-answers-refused.Post κs a x s → session-answers-refused.Post κs a y s′ → x ≡ y
-session-answers-refused-one κs a x y s s′ p q = p ∙ sym q
-
 pub session-answers-finished-one : (κs : _) (a : _) (x y : _) (s s′ : _) → session-answers-finished.Post κs a x s → session-answers-finished.Post κs a y s′ → x ≡ y
 session-answers-finished-one κs a x y s s′ p q = p ∙ sym q
 
@@ -524,8 +519,8 @@ session-conditions-instance-held-one κs a x y s s′ p q = p ∙ sym q
 pub session-conditions-apart-one : (κs : _) (a : _) (x y : _) (s s′ : _) → session-conditions-apart.Post κs a x s → session-conditions-apart.Post κs a y s′ → x ≡ y
 session-conditions-apart-one κs a x y s s′ p q = p ∙ sym q
 
-pub session-effects-effect-of-one : (κs : _) (a : _) (x y : _) (s s′ : _) → session-effects-effect-of.Post κs a x s → session-effects-effect-of.Post κs a y s′ → x ≡ y
-session-effects-effect-of-one κs a x y s s′ p q = p ∙ sym q
+pub session-effects-perform-one : (κs : _) (a : _) (x y : _) (s s′ : _) → session-effects-perform.Post κs a x s → session-effects-perform.Post κs a y s′ → x ≡ y
+session-effects-perform-one κs a x y s s′ p q = p ∙ sym q
 
 pub session-events-blank-log-one : (κs : _) (a : _) (x y : _) (s s′ : _) → session-events-blank-log.Post κs a x s → session-events-blank-log.Post κs a y s′ → x ≡ y
 session-events-blank-log-one κs a x y s s′ p q = p ∙ sym q
@@ -544,9 +539,6 @@ session-gate-gate-one κs a x y s s′ p q = p ∙ sym q
 
 pub session-operations-operation-of-one : (κs : _) (a : _) (x y : _) (s s′ : _) → session-operations-operation-of.Post κs a x s → session-operations-operation-of.Post κs a y s′ → x ≡ y
 session-operations-operation-of-one κs a x y s s′ p q = p ∙ sym q
-
-pub session-refusal-refusal-one : (κs : _) (a : _) (x y : _) (s s′ : _) → session-refusal-refusal.Post κs a x s → session-refusal-refusal.Post κs a y s′ → x ≡ y
-session-refusal-refusal-one κs a x y s s′ p q = p ∙ sym q
 
 pub session-state-is-open-one : (κs : _) (a : _) (x y : _) (s s′ : _) → session-state-is-open.Post κs a x s → session-state-is-open.Post κs a y s′ → x ≡ y
 session-state-is-open-one κs a x y s s′ p q = p ∙ sym q

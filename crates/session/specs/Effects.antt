@@ -39,8 +39,12 @@ keptAfter (Changed c) w k = k
 abbrev pub does : ℕ → State → Tables → Effect
 does value s tables = record { refusal = done; value = value; state = s; tables = tables }
 
+-- "A refusal returns value 0 and changes no table word."
+abbrev pub refuses : ℕ → State → Effect
+refuses refusal s = record { refusal = refusal; value = 0; state = s; tables = Stay }
+
 abbrev pub full : State → Effect
-full s = record { refusal = NO-ROOM; value = 0; state = s; tables = Stay }
+full s = refuses NO-ROOM s
 
 -- "as abort" and "as 7" are said of RW alone
 abbrev pub ifWriting : State → Tables → Tables

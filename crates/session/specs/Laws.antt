@@ -1,5 +1,6 @@
 -- What callers cite of the definitions.
 pub mod Operations
+pub mod Performed
 pub mod Checks
 pub mod Events
 pub mod Sound

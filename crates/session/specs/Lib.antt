@@ -1,5 +1,6 @@
 pub mod Refusals
 pub mod Operations
+pub mod Performed
 pub mod States
 pub mod Sound
 pub mod Access

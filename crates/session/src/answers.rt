@@ -23,7 +23,7 @@ pub fn unsound(x: Session) -> Answer
 }
 
 // A refusal: value 0, and at most one event more.
-pub fn refused(op: u32, refusal: u32, x: Session) -> Answer
+fn refused(op: u32, refusal: u32, x: Session) -> Answer
     ensures { λ r. ⌜ r ≡ refusedAnswer op refusal x ⌝ }
 {
     Answer {
@@ -40,7 +40,7 @@ fn log_after(s: State, l: Log) -> Log
     if is_open(s) { l } else { blank_log() }
 }
 
-// The answer for an effect: done with its value and state, or refused for want of room.
+// The answer for an effect: done with its value and state, or refused.
 pub fn finished(op: u32, x: Session, refusal: u32, value: u32, state: State) -> Answer
     ensures { λ r. ⌜ r ≡ finishedAnswer op x refusal value state ⌝ }
 {

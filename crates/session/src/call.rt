@@ -5,13 +5,10 @@ ghost use Rattle.session.specs.Effects.{workingAfter, keptAfter};
 ghost use Rattle.session.specs.Sound.{sound as soundState};
 ghost use Rattle.session.specs.Step.{outcome, core as coreOf, step};
 use crate::answers::finished;
-use crate::answers::refused;
 use crate::answers::unsound;
 use crate::effects::Tables;
-use crate::effects::effect_of;
+use crate::effects::perform;
 use crate::operations::operation_of;
-use crate::refusal::refusal;
-use crate::refusals;
 use crate::sound::sound_session;
 use crate::state::Answer;
 use crate::state::RW;
@@ -45,12 +42,7 @@ pub fn core(
     ensures { λ r. ⌜ outcome r (now (working .exit)) (now (kept .exit)) ≡ coreOf op a b c x (now (working .entry)) (now (kept .entry)) ⌝ }
 {
     let state = x.state;
-    let operation = operation_of(op);
-    let n = refusal(operation, a, b, c, state, working);
-    if n != refusals::DONE {
-        return refused(op, n, x);
-    }
-    let e = effect_of(operation, a, b, c, state, working);
+    let e = perform(operation_of(op), a, b, c, state, working);
     let tables = e.tables;
     settle(tables, working, kept);
     finished(op, x, e.refusal, e.value, e.state)

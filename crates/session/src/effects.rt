@@ -1,7 +1,12 @@
-// "effect when done": the value, the state and what becomes of the tables. An operation only says the change; the tables
-// are written elsewhere.
+// What a call does: its refusal, or "effect when done", the value, the state and what becomes of the tables. An operation
+// only says the change; the tables are written elsewhere.
 ghost use mathlib.Core.Path.{_≡_};
-ghost use Rattle.session.specs.Effects.{does, number, ifWriting, created as createdIn, effect as effectOf};
+ghost use Rattle.session.specs.Checks.{firstOf, checks as checksOf};
+ghost use Rattle.session.specs.Effects.{does, refuses, number, ifWriting, created as createdIn, effect};
+ghost use Rattle.session.specs.Performed.{unlessRefused, performed};
+use crate::checks;
+use crate::gate::family;
+use crate::gate::gate;
 use crate::operations::Operation;
 use crate::refusals;
 use crate::state::ABORTED;
@@ -43,7 +48,7 @@ pub enum Tables {
     Changed(Change),
 }
 
-// `refusal` is done, or NO_ROOM.
+// `refusal` is done, or why nothing is.
 pub struct Effect {
     pub refusal: u32,
     pub value: u32,
@@ -59,6 +64,18 @@ fn done(value: u32, state: State, tables: Tables) -> Effect
         value,
         state,
         tables,
+    }
+}
+
+// Nothing is done.
+fn refused(refusal: u32, state: State) -> Effect
+    ensures { λ r. ⌜ r ≡ refuses refusal state ⌝ }
+{
+    Effect {
+        refusal,
+        value: 0,
+        state,
+        tables: Tables::Stay,
     }
 }
 
@@ -95,58 +112,164 @@ fn created(kind: Kind, first: u64, s: State, w: &[u64]) -> Effect
     if n < count(kind) {
         return done(n, s, Tables::Changed(Change::Made(kind, n, first)));
     }
-    Effect {
-        refusal: refusals::NO_ROOM,
-        value: 0,
-        state: s,
-        tables: Tables::Stay,
-    }
+    refused(refusals::NO_ROOM, s)
 }
 
-pub fn effect_of(op: Operation, a: u32, b: u32, c: u32, s: State, w: &[u64]) -> Effect
-    ensures { λ r. ⌜ r ≡ effectOf op a b c s (now (w .entry)) ⌝ }
+// The effect, unless a check refuses.
+fn unless(refusal: u32, s: State, effect: Effect) -> Effect
+    ensures { λ r. ⌜ r ≡ unlessRefused refusal s effect ⌝ }
+{
+    if refusal != refusals::DONE {
+        return refused(refusal, s);
+    }
+    effect
+}
+
+// Each operation: its checks, and its effect. An effect is only said here, not written, so it is said whether or not a check
+// refuses.
+fn own(op: Operation, a: u32, b: u32, c: u32, s: State, w: &[u64]) -> Effect
+    ensures { λ r. ⌜ r ≡ unlessRefused (firstOf (checksOf op a b c s (now (w .entry)))) s (effect op a b c s (now (w .entry))) ⌝ }
 {
     match op {
         Operation::OpenSession => quietly(opened_state()),
         Operation::CloseSession => done(0, closed_state(), if_writing(s, Tables::Drop)),
-        Operation::OpenRepository => quietly(with_repositories(s, with(s.repositories, a))),
-        Operation::CloseRepository => quietly(with_repositories(s, without(s.repositories, a))),
-        Operation::StartReadWrite => quietly(with_transaction(s, RW)),
-        Operation::StartReadOnly => quietly(with_transaction(s, RO)),
-        Operation::Commit => done(0, s, Tables::Commit),
-        Operation::Abort => done(0, with_access(s, EMPTY, EMPTY), Tables::Drop),
-        Operation::EndCommit => done(0, ended(s, NONE), if_writing(s, Tables::Commit)),
-        Operation::EndAbort => done(0, ended(s, NONE), if_writing(s, Tables::Drop)),
+        Operation::OpenRepository => unless(
+            checks::open_repository(a, s),
+            s,
+            quietly(with_repositories(s, with(s.repositories, a))),
+        ),
+        Operation::CloseRepository => unless(
+            checks::close_repository(a, s),
+            s,
+            quietly(with_repositories(s, without(s.repositories, a))),
+        ),
+        Operation::StartReadWrite => unless(checks::start(s), s, quietly(with_transaction(s, RW))),
+        Operation::StartReadOnly => unless(checks::start(s), s, quietly(with_transaction(s, RO))),
+        Operation::Commit => unless(checks::commit_or_abort(s), s, done(0, s, Tables::Commit)),
+        Operation::Abort => unless(
+            checks::commit_or_abort(s),
+            s,
+            done(0, with_access(s, EMPTY, EMPTY), Tables::Drop),
+        ),
+        Operation::EndCommit => unless(
+            checks::end_commit(s),
+            s,
+            done(0, ended(s, NONE), if_writing(s, Tables::Commit)),
+        ),
+        Operation::EndAbort => unless(
+            checks::end_abort(s),
+            s,
+            done(0, ended(s, NONE), if_writing(s, Tables::Drop)),
+        ),
         Operation::StartRecording => done(1, with_recording(s, 1), Tables::Stay),
         Operation::StopRecording => done(s.recording, with_recording(s, 0), Tables::Stay),
-        Operation::StorageFault => done(0, ended(s, ABORTED), if_writing(s, Tables::Drop)),
-        Operation::CreateModel => created(Kind::Model, label(a, b, c), s, w),
-        Operation::DeleteModel => changed(
-            with_access(s, without(s.ro, a), without(s.rw, a)),
-            Change::Removed(a),
-        ),
-        Operation::ReadOnlyAccess => quietly(with_access(s, with(s.ro, a), s.rw)),
-        Operation::ReadWriteAccess => quietly(with_access(s, s.ro, with(s.rw, a))),
-        Operation::EndAccess => quietly(with_access(s, without(s.ro, a), without(s.rw, a))),
-        Operation::CreateSchemaInstance => created(Kind::SchemaInstance, label(a, b, c), s, w),
-        Operation::DeleteSchemaInstance => changed(s, Change::Dissolved(a)),
-        Operation::AddModel => done(
-            size(with(set_at(w, a), b)),
+        Operation::StorageFault => unless(
+            checks::storage_fault(s),
             s,
-            Tables::Changed(Change::Joined(a, b)),
+            done(0, ended(s, ABORTED), if_writing(s, Tables::Drop)),
         ),
-        Operation::RemoveModel => done(
-            size(without(set_at(w, a), b)),
+        Operation::CreateModel => unless(
+            checks::creation(Kind::Model, refusals::MO_DUP, a, b, c, s, w),
             s,
-            Tables::Changed(Change::Left(a, b)),
+            created(Kind::Model, label(a, b, c), s, w),
         ),
-        Operation::CreateInstance => created(Kind::Instance, header(b, a, 0), s, w),
-        Operation::DeleteInstance => changed(s, Change::Deleted(a)),
-        Operation::Get => done(value_in(value_at(w, a, b)), s, Tables::Stay),
-        Operation::Test => done(as_number(is_set(w, a, b)), s, Tables::Stay),
-        Operation::Put => changed(s, Change::Put(a, b, c)),
-        Operation::Unset => changed(s, Change::Unset(a, b)),
-        Operation::IsSubtype => done(as_number(dictionary::subtype(a, b)), s, Tables::Stay),
+        Operation::DeleteModel => unless(
+            checks::delete_model(a, s, w),
+            s,
+            changed(
+                with_access(s, without(s.ro, a), without(s.rw, a)),
+                Change::Removed(a),
+            ),
+        ),
+        Operation::ReadOnlyAccess => unless(
+            checks::read_only_access(a, s, w),
+            s,
+            quietly(with_access(s, with(s.ro, a), s.rw)),
+        ),
+        Operation::ReadWriteAccess => unless(
+            checks::read_write_access(a, s, w),
+            s,
+            quietly(with_access(s, s.ro, with(s.rw, a))),
+        ),
+        Operation::EndAccess => unless(
+            checks::end_access(a, s, w),
+            s,
+            quietly(with_access(s, without(s.ro, a), without(s.rw, a))),
+        ),
+        Operation::CreateSchemaInstance => unless(
+            checks::creation(Kind::SchemaInstance, refusals::SI_DUP, a, b, c, s, w),
+            s,
+            created(Kind::SchemaInstance, label(a, b, c), s, w),
+        ),
+        Operation::DeleteSchemaInstance => unless(
+            checks::delete_schema_instance(a, s, w),
+            s,
+            changed(s, Change::Dissolved(a)),
+        ),
+        Operation::AddModel => unless(
+            checks::add_model(a, b, s, w),
+            s,
+            done(
+                size(with(set_at(w, a), b)),
+                s,
+                Tables::Changed(Change::Joined(a, b)),
+            ),
+        ),
+        Operation::RemoveModel => unless(
+            checks::remove_model(a, b, s, w),
+            s,
+            done(
+                size(without(set_at(w, a), b)),
+                s,
+                Tables::Changed(Change::Left(a, b)),
+            ),
+        ),
+        Operation::CreateInstance => unless(
+            checks::create_instance(a, b, s, w),
+            s,
+            created(Kind::Instance, header(b, a, 0), s, w),
+        ),
+        Operation::DeleteInstance => unless(
+            checks::delete_instance(a, s, w),
+            s,
+            changed(s, Change::Deleted(a)),
+        ),
+        Operation::Get => unless(
+            checks::get(a, b, s, w),
+            s,
+            done(value_in(value_at(w, a, b)), s, Tables::Stay),
+        ),
+        Operation::Test => unless(
+            checks::reading(a, b, s, w),
+            s,
+            done(as_number(is_set(w, a, b)), s, Tables::Stay),
+        ),
+        Operation::Put => unless(
+            checks::put(a, b, c, s, w),
+            s,
+            changed(s, Change::Put(a, b, c)),
+        ),
+        Operation::Unset => unless(
+            checks::writing(a, b, s, w),
+            s,
+            changed(s, Change::Unset(a, b)),
+        ),
+        Operation::IsSubtype => unless(
+            checks::is_subtype(a, b),
+            s,
+            done(as_number(dictionary::subtype(a, b)), s, Tables::Stay),
+        ),
         Operation::Unlisted => quietly(s),
     }
+}
+
+// What a call does on a sound state: refused at the gate, refused by the operation's own checks, or its effect.
+pub fn perform(op: Operation, a: u32, b: u32, c: u32, s: State, w: &[u64]) -> Effect
+    ensures { λ r. ⌜ r ≡ performed op a b c s (now (w .entry)) ⌝ }
+{
+    let refusal = gate(family(op), s);
+    if refusal != refusals::DONE {
+        return refused(refusal, s);
+    }
+    own(op, a, b, c, s, w)
 }

@@ -7,7 +7,6 @@ pub mod effects;
 pub mod events;
 pub mod gate;
 pub mod operations;
-pub mod refusal;
 pub mod refusals;
 mod sound;
 pub mod state;

@@ -16,9 +16,13 @@ done-requires c κs = search needs
 returns : tie.Need-returns
 returns c = rw (← c .before .before .before .first-free .ensures, ← c .before .before .count .ensures, lt-ltb (c .before .before .before .first-free .result) (c .before .before .count .result) (c .before .if1 .taken)) (c .done .ensures)
 
+refused-requires : tie.Need-refused-requires
+refused-requires c κs = search needs
+
 returns-2 : tie.Need-returns-2
-returns-2 c = rw (← c .before .before .first-free .ensures, ← c .before .count .ensures, le-ltb (c .before .before .first-free .result) (c .before .count .result) (c .if1 .left))
+returns-2 c = rw (← c .before .before .before .first-free .ensures, ← c .before .before .count .ensures, le-ltb (c .before .before .before .first-free .result) (c .before .before .count .result) (c .before .if1 .left)) (c .refused .ensures)
 
 pub created-spec : {M : Type 1} → statement M
 created-spec =
-    tie.close (tie.spec first-free-requires count-requires done-requires returns returns-2)
+    tie.close
+    (tie.spec first-free-requires count-requires done-requires returns refused-requires returns-2)
