@@ -61,10 +61,10 @@ typedef struct chip_event {
 } chip_event;
 
 /* A session, as the caller holds it between calls. Every bit pattern is taken; one that is not sound is CHIP_SY_ERR. The
- * bytes between the fields carry nothing. */
+ * bytes after the last field carry nothing. */
 typedef struct chip_session {
     chip_event events[CHIP_EVENTS]; /* the oldest first */
-    uint32_t count;                 /* how many events there are; the places after them are 0 */
+    uint64_t count;                 /* how many events there are; the places after them are 0 */
     uint64_t repositories;          /* the open ones, bit r for repository r */
     uint64_t ro;                    /* models with read-only access, bit m for model m */
     uint64_t rw;                    /* models with read-write access */

@@ -34,14 +34,14 @@ static int bit_of_session(dice *d, state *s)
 {
     chip_session *session = &s->session;
     chip_event *event = &session->events[below(d, CHIP_EVENTS)];
-    uint32_t *const small[] = {&session->opened, &session->recording, &session->transaction, &session->count,
-                               &event->op,       &event->refusal};
-    uint64_t *const large[] = {&session->repositories, &session->ro, &session->rw};
+    uint32_t *const small[] = {&session->opened, &session->recording, &session->transaction, &event->op,
+                               &event->refusal};
+    uint64_t *const large[] = {&session->count, &session->repositories, &session->ro, &session->rw};
     uint32_t field = below(d, 9);
-    if (field < 6)
+    if (field < 5)
         *small[field] ^= (uint32_t)one_bit(d, 0, one_in(d, 2) ? 31 : 4);
     else
-        *large[field - 6] ^= one_bit(d, 0, field == 6 && one_in(d, 2) ? 8 : 63);
+        *large[field - 5] ^= one_bit(d, 0, field < 7 && one_in(d, 2) ? 8 : 63);
     return 1;
 }
 
@@ -66,7 +66,7 @@ static int wild_session(dice *d, state *s)
     s->session.repositories = roll(d);
     s->session.ro = roll(d);
     s->session.rw = roll(d);
-    s->session.count = (uint32_t)roll(d);
+    s->session.count = roll(d);
     for (uint32_t e = 0; e < CHIP_EVENTS; e++) {
         s->session.events[e].op = (uint32_t)roll(d);
         s->session.events[e].refusal = (uint32_t)roll(d);

@@ -37,7 +37,7 @@ static int repository_above_7(dice *d, state *s)
 static int too_many_events(dice *d, state *s)
 {
     fill_events(d, s, CHIP_EVENTS);
-    s->session.count = one_in(d, 2) ? CHIP_EVENTS + 1 : CHIP_EVENTS + (uint32_t)one_bit(d, 0, 31);
+    s->session.count = one_in(d, 2) ? CHIP_EVENTS + 1 : CHIP_EVENTS + one_bit(d, 0, 63);
     return 1;
 }
 

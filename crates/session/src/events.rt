@@ -7,7 +7,7 @@ use crate::state::Session;
 use crate::state::is_open;
 
 // How many events a log holds.
-pub const PLACES: u32 = 16;
+pub const PLACES: u64 = 16;
 
 pub fn blank_log() -> Log
     ensures { λ r. ⌜ r ≡ blankLog ⌝ }

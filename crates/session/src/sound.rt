@@ -39,7 +39,7 @@ fn is_blank(e: Event) -> bool
 }
 
 // Place i of a log with `count` events.
-fn sound_place(count: u32, i: u32, e: Event) -> bool
+fn sound_place(count: u64, i: u64, e: Event) -> bool
     ensures { λ r. ⌜ r ≡ soundPlace count i e ⌝ }
 {
     let used = i < count;
@@ -47,7 +47,7 @@ fn sound_place(count: u32, i: u32, e: Event) -> bool
 }
 
 // No place ends the loop: sixteen tests without a branch are quicker.
-fn sound_places(count: u32, events: [Event; 16]) -> bool
+fn sound_places(count: u64, events: [Event; 16]) -> bool
     ensures { λ r. ⌜ r ≡ soundPlaces count events ⌝ }
 {
     let mut ok = true;

@@ -35,7 +35,7 @@ pub struct Event {
 #[repr(C)]
 pub struct Log {
     pub events: [Event; 16],
-    pub count: u32,
+    pub count: u64,
 }
 
 // The log stands first, so that it is copied in the same pieces of sixteen bytes in which a caller copies the whole: what

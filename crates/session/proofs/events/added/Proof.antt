@@ -4,9 +4,6 @@ use borrow.Author.Needs.{needs}
 use Rattle.session.proofs.events.added.Statement.{statement}
 use Rattle.session.proofs.events.added.Tie as tie
 
-cast-events : tie.Need-cast-events
-cast-events c = search needs
-
 mul-events : tie.Need-mul-events
 mul-events c = search needs
 
@@ -28,11 +25,4 @@ returns-2 c = rw (le-ltb (c .before .before .before .args .log .count) 16 (c .be
 pub added-spec : {M : Type 1} → statement M
 added-spec =
     tie.close
-    (tie.spec
-    cast-events
-    mul-events
-    array-set-from-events
-    add-t10
-    returns
-    shifted-requires
-    returns-2)
+    (tie.spec mul-events array-set-from-events add-t10 returns shifted-requires returns-2)

@@ -22,9 +22,6 @@ loop-holds : tie.Need-loop-holds Inv-loop μ-loop
 unfolding allB
 loop-holds c = (omega arith, refl)
 
-cast-e : tie.Need-cast-e Inv-loop μ-loop
-cast-e c = omega arith
-
 mul-e : tie.Need-mul-e Inv-loop μ-loop
 mul-e c = omega arith
 
@@ -54,7 +51,6 @@ sound-places-spec =
     Inv-loop
     μ-loop
     loop-holds
-    cast-e
     mul-e
     array-copy-out-e
     sound-place-requires
