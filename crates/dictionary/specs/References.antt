@@ -57,7 +57,7 @@ only-one t i = of-type (λ t. allBelow 3 (λ k. not (isReference (attributeOf t 
 reference-there : (t k : ℕ) → isReference (attributeOf t k) ≡ true → attributeOf t k ≡ Lacking → ⊥
 reference-there t k e z = false≢true (sym (ap isReference z) ∙ e)
 
--- "No type has two"
+-- No type has two
 pub reference-only : (t k : ℕ) → isReference (attributeOf t k) ≡ true → k ≡ referenceOf t
 reference-only t k e =
     ⊎-elim (λ i. eqb-true k (referenceOf t) (told (isReference (attributeOf t k)) (eqb k (referenceOf t)) e (below 3 _ (only-one t i) k few)))

@@ -62,6 +62,7 @@ use Rattle.tables.proofs.going.nothing.Reads as tables-going-nothing
 use Rattle.tables.proofs.going.goes.Reads as tables-going-goes
 use Rattle.tables.proofs.going.with.Reads as tables-going-with
 use Rattle.tables.proofs.going.one.Reads as tables-going-one
+use Rattle.tables.proofs.going.is_of.Reads as tables-going-is-of
 use Rattle.tables.proofs.going.those_of.Reads as tables-going-those-of
 use Rattle.tables.proofs.references.pointer_in.Reads as tables-references-pointer-in
 use Rattle.tables.proofs.references.held_back.Reads as tables-references-held-back
@@ -327,6 +328,9 @@ tables-going-with-one κs a x y s s′ p q = p ∙ sym q
 
 pub tables-going-one-one : (κs : _) (a : _) (x y : _) (s s′ : _) → tables-going-one.Post κs a x s → tables-going-one.Post κs a y s′ → x ≡ y
 tables-going-one-one κs a x y s s′ p q = p ∙ sym q
+
+pub tables-going-is-of-one : (κs : _) (a : _) (x y : _) (s s′ : _) → tables-going-is-of.Post κs a x s → tables-going-is-of.Post κs a y s′ → x ≡ y
+tables-going-is-of-one κs a x y s s′ p q = p ∙ sym q
 
 pub tables-going-those-of-one : (κs : _) (a : _) (x y : _) (s s′ : _) → tables-going-those-of.Post κs a x s → tables-going-those-of.Post κs a y s′ → x ≡ y
 tables-going-those-of-one κs a x y s s′ p q = p ∙ sym q

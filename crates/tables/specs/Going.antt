@@ -1,11 +1,11 @@
 -- The instances that go with a deletion, as a set of numbers.
-use Prim.Native.Nat.{ℕ, zero, suc, _-_}
+use Prim.Native.Nat.{ℕ, _+_, _-_}
 use mathlib.Core.Bool.{Bool, cond}
 use mathlib.Core.List.{List}
 use lib.Dec.{eqb, ltb}
 use Rattle.words.specs.declared.layout.Kind.the-variants.{Instance}
 use Rattle.words.specs.Layout.{countOf}
-use Rattle.words.specs.Sets.{bits, none, has, insert}
+use Rattle.words.specs.Sets.{bits, none, has, insert, setOf}
 use Rattle.tables.specs.declared.going.Going.{Going}
 use Rattle.tables.specs.References.{thoseOf}
 
@@ -29,9 +29,10 @@ withNumber g j =
 abbrev pub oneGoing : ℕ → Going
 oneGoing i = withNumber nothing i
 
--- what goes with the deletion of model m: of the first n instances those of m
-unfoldable pub gathered : List ℕ → ℕ → ℕ → Going
-gathered t m zero = nothing
-gathered t m (suc n) =
-    let before = gathered t m n in
-    cond (thoseOf t m n) (withNumber before n) before
+-- of the 64 instances from `from` on, those of model m
+abbrev pub halfOf : List ℕ → ℕ → ℕ → ℕ
+halfOf t m from = setOf bits (λ j. thoseOf t m (from + j))
+
+-- what goes with the deletion of model m
+abbrev pub gathered : List ℕ → ℕ → Going
+gathered t m = record { low = halfOf t m 0; high = halfOf t m bits; beyond = 0 }

@@ -1,12 +1,12 @@
 -- The live entries of each schema as sets, and the tests of Sound.antt that they answer.
-use Prim.Native.Nat.{ℕ, zero, suc}
+use Prim.Native.Nat.{ℕ}
 use mathlib.Core.Bool.{Bool, cond, not, _&&_, _||_}
 use mathlib.Core.List.{List}
 use lib.Dec.{eqb}
 use Rattle.words.specs.declared.layout.Kind.{Kind}
 use Rattle.words.specs.Layout.{countOf}
 use Rattle.words.specs.Search.{allB}
-use Rattle.words.specs.Sets.{bits, none, has, insert}
+use Rattle.words.specs.Sets.{bits, none, has, insert, setOf}
 use Rattle.words.specs.Fields.{schemaIn, modelIn, isFree}
 use Rattle.dictionary.specs.Dictionary.{schemaOf}
 use Rattle.tables.specs.declared.live.Live.{Live}
@@ -16,13 +16,9 @@ use Rattle.tables.specs.View.{labelAt}
 abbrev pub isOf : ℕ → ℕ → Bool
 isOf schema w = not (isFree w) && eqb (schemaIn w) schema
 
-abbrev pub withIf : Bool → ℕ → ℕ → ℕ
-withIf joins set m = cond joins (insert set m) set
-
 -- those of the first n entries of a kind that are live and of this schema
-unfoldable pub liveOf : List ℕ → Kind → ℕ → ℕ → ℕ
-liveOf t kind schema zero = none
-liveOf t kind schema (suc n) = withIf (isOf schema (labelAt t kind n)) (liveOf t kind schema n) n
+abbrev pub liveOf : List ℕ → Kind → ℕ → ℕ → ℕ
+liveOf t kind schema n = setOf n (λ i. isOf schema (labelAt t kind i))
 
 abbrev pub liveBelow : List ℕ → Kind → ℕ → Live
 liveBelow t kind n = record { first = liveOf t kind 1 n; second = liveOf t kind 2 n }

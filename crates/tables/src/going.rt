@@ -1,13 +1,12 @@
 // The instances that go with a deletion, as a set of numbers.
 ghost use mathlib.Core.Path.{_≡_};
 ghost use mathlib.Core.Bool.{cond};
-ghost use Rattle.words.specs.Layout.{countOf};
+ghost use Prim.Native.Nat.{_≤_};
+ghost use Rattle.words.specs.Sets.{insert};
 ghost use Rattle.tables.specs.References.{thoseOf};
 ghost use Rattle.tables.specs.Going as spec;
 use crate::view::header_at;
 use words::fields::model_in;
-use words::layout::Kind;
-use words::layout::count;
 use words::sets;
 
 // Bit j of low for instance j below 64, of high for instance 64 + j. A table that is not sound may
@@ -79,29 +78,40 @@ pub fn one(i: u32) -> Going
 }
 
 // Instance i is a live one of model m.
-fn is_of(t: &[u64], m: u32, i: u32) -> bool
+pub fn is_of(t: &[u64], m: u32, i: u32) -> bool
     ensures { λ r. ⌜ r ≡ thoseOf (now (t .entry)) m i ⌝ }
 {
     let h = header_at(t, i);
     (h != 0) & (model_in(h) == m)
 }
 
-fn with_if(g: Going, j: u32, so: bool) -> Going
-    ensures { λ r. ⌜ r ≡ cond so (spec.withNumber g j) g ⌝ }
+fn with_if(set: u64, j: u32, so: bool) -> u64
+    ensures { λ r. ⌜ r ≡ cond so (insert set j) set ⌝ }
 {
-    if so { with(g, j) } else { g }
+    if so { sets::with(set, j) } else { set }
+}
+
+// The live instances of model m among the 64 from `from` on, bit j for instance from + j.
+fn half_of(t: &[u64], m: u32, from: u32) -> u64
+    requires { ⌜ from ≤ 64 ⌝ }
+    ensures { λ r. ⌜ r ≡ spec.halfOf (now (t .entry)) m from ⌝ }
+{
+    let mut set = sets::EMPTY;
+    let mut i = 0;
+    while i < sets::BITS {
+        set = with_if(set, i, is_of(t, m, from + i));
+        i += 1;
+    }
+    set
 }
 
 // What goes with the deletion of model m: its live instances.
 pub fn those_of(t: &[u64], m: u32) -> Going
-    ensures { λ r. ⌜ r ≡ spec.gathered (now (t .entry)) m (countOf Kind.Instance) ⌝ }
+    ensures { λ r. ⌜ r ≡ spec.gathered (now (t .entry)) m ⌝ }
 {
-    let n = count(Kind::Instance);
-    let mut g = nothing();
-    let mut i = 0;
-    while i < n {
-        g = with_if(g, i, is_of(t, m, i));
-        i += 1;
+    Going {
+        low: half_of(t, m, 0),
+        high: half_of(t, m, sets::BITS),
+        beyond: 0,
     }
-    g
 }

@@ -4,10 +4,8 @@ ghost use mathlib.Core.Path.{_≡_};
 ghost use mathlib.Core.Bool.{_&&_};
 ghost use Rattle.words.specs.Sets.{has as hasBit};
 ghost use Rattle.tables.specs.References as spec;
-ghost use Rattle.tables.specs.Going.{goes};
 ghost use Rattle.tables.specs.Pointers.{pointerIn};
 use crate::going;
-use crate::going::Going;
 use crate::view::header_at;
 use crate::view::set_at;
 use crate::view::value_at;
@@ -33,10 +31,32 @@ pub fn pointer_in(header: u64) -> u32
     if is_flagged(header, k) { k } else { VALUES }
 }
 
+// What is deleted.
+pub enum Deletion {
+    OfInstance(u32),
+    OfModel(u32),
+}
+
+// Whether instance j goes with it. What a value word names may be any number.
+fn goes(t: &[u64], d: Deletion, j: u64) -> bool
+    ensures { λ r. ⌜ r ≡ spec.goesWith (now (t .entry)) d j ⌝ }
+{
+    match d {
+        Deletion::OfInstance(i) => j == (i as u64),
+        Deletion::OfModel(m) => {
+            if j < (count(Kind::Instance) as u64) {
+                going::is_of(t, m, j as u32)
+            } else {
+                false
+            }
+        }
+    }
+}
+
 // "an instance that stays, in another model without RW access, refers to one that would go". Access is asked first: it
 // needs no dictionary.
-fn holds_back(t: &[u64], g: Going, rw: u64, i: u32) -> bool
-    ensures { λ r. ⌜ r ≡ spec.holdsBack (now (t .entry)) (goes g) rw i ⌝ }
+fn holds_back(t: &[u64], d: Deletion, rw: u64, i: u32) -> bool
+    ensures { λ r. ⌜ r ≡ spec.holdsBack (now (t .entry)) (spec.goesWith (now (t .entry)) d) rw i ⌝ }
 {
     let header = header_at(t, i);
     if has(rw, model_in(header)) {
@@ -46,19 +66,19 @@ fn holds_back(t: &[u64], g: Going, rw: u64, i: u32) -> bool
     if k == VALUES {
         return false;
     }
-    if going::goes(g, i as u64) {
+    if goes(t, d, i as u64) {
         return false;
     }
-    going::goes(g, value_at(t, i, k))
+    goes(t, d, value_at(t, i, k))
 }
 
-pub fn held_back(t: &[u64], g: Going, rw: u64) -> bool
-    ensures { λ r. ⌜ r ≡ spec.heldBack (now (t .entry)) (goes g) rw ⌝ }
+pub fn held_back(t: &[u64], d: Deletion, rw: u64) -> bool
+    ensures { λ r. ⌜ r ≡ spec.heldBack (now (t .entry)) (spec.goesWith (now (t .entry)) d) rw ⌝ }
 {
     let n = count(Kind::Instance);
     let mut i = 0;
     while i < n {
-        if holds_back(t, g, rw, i) {
+        if holds_back(t, d, rw, i) {
             return true;
         }
         i += 1;
@@ -70,14 +90,14 @@ pub fn held_back(t: &[u64], g: Going, rw: u64) -> bool
 pub fn held_back_by_instance(t: &[u64], i: u32, rw: u64) -> bool
     ensures { λ r. ⌜ r ≡ spec.heldBack (now (t .entry)) (spec.theInstance i) rw ⌝ }
 {
-    held_back(t, going::one(i), rw)
+    held_back(t, Deletion::OfInstance(i), rw)
 }
 
 // The deletion of model m is held back.
 pub fn held_back_by_model(t: &[u64], m: u32, rw: u64) -> bool
     ensures { λ r. ⌜ r ≡ spec.heldBack (now (t .entry)) (spec.thoseOf (now (t .entry)) m) rw ⌝ }
 {
-    held_back(t, going::those_of(t, m), rw)
+    held_back(t, Deletion::OfModel(m), rw)
 }
 
 fn has_both(set: u64, m: u32, n: u32) -> bool

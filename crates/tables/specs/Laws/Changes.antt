@@ -116,7 +116,7 @@ module _ (t : List ℕ) where
   pub swept-one : (i : ℕ) → swept t (goes (oneGoing i)) (countOf Instance) ≡ swept t (theInstance i) (countOf Instance)
   swept-one i = ap (λ (f : ℕ → Bool). swept t f (countOf Instance)) (goes-one i)
 
-  pub swept-those : (m : ℕ) → swept t (goes (gathered t m (countOf Instance))) (countOf Instance) ≡ swept t (thoseOf t m) (countOf Instance)
+  pub swept-those : (m : ℕ) → swept t (goes (gathered t m)) (countOf Instance) ≡ swept t (thoseOf t m) (countOf Instance)
   swept-those m = ap (λ (f : ℕ → Bool). swept t f (countOf Instance)) (goes-those t m)
 
 -- ---- what every change leaves alone

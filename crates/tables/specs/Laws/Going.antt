@@ -1,20 +1,19 @@
 -- The set of those that go: what is in it after a number is added, and that it is the one that the definitions name.
 use mathlib.Core.Path.{_≡_, refl, sym, ap, _∙_, fun-ext}
-use mathlib.Core.Bool.{Bool, true, false, cond, _&&_, _||_, or-false}
+use mathlib.Core.Bool.{Bool, true, false, _||_, or-false}
 use mathlib.Core.List.{List}
-use Prim.Native.Nat.{ℕ, zero, suc, _-_, _≤_, _<_, zero-le}
+use Prim.Native.Nat.{ℕ, _+_, _-_, _≤_, _<_}
 use native.Mathlib.Decide.{decLt}
 use native.Mathlib.Omega.{arith}
-use lib.Dec.{eqb, ltb}
+use lib.Dec.{eqb}
 use borrow.Author.Tests.{lt-ltb, le-ltb, eq-eqb, ne-eqb, eqb-true, eqb-false}
 use Rattle.words.specs.declared.layout.Kind.the-variants.{Instance}
 use Rattle.words.specs.Layout.{countOf}
 use Rattle.words.specs.Sets.{bits, none, has, insert}
-use Rattle.words.specs.Laws.Bools.{and-ended}
-use Rattle.words.specs.Laws.Sets.{has-insert, has-none}
+use Rattle.words.specs.Laws.Sets.{has-insert, has-none, set-member}
 use Rattle.tables.specs.declared.going.Going.{Going}
 use Rattle.tables.specs.References.{theInstance, thoseOf}
-use Rattle.tables.specs.Going.{goes, nothing, withNumber, oneGoing, gathered}
+use Rattle.tables.specs.Going.{goes, nothing, withNumber, oneGoing, halfOf, gathered}
 
 -- where a number stands
 data Zone (j : ℕ) : Type 0 where
@@ -108,55 +107,15 @@ goes-one i = fun-ext (λ n. at n (zone i) (zone n))
     at n (past h) (in-high l m) = beyond-it n h ∙ goes-high _ n l m ∙ has-none (n - bits) ∙ sym (ne-eqb n i (λ e. omega arith))
     at n (past h) (past l) = beyond-it n h ∙ goes-past _ n l
 
--- of the first n numbers, and of one more
-module _ (f : ℕ → Bool) (n j : ℕ) where
-  earlier : j < n → (ltb j (suc n) && f j) ≡ (ltb j n && f j)
-  earlier h =
-      let later : j < suc n = omega arith in
-      rw (lt-ltb j n h, lt-ltb j (suc n) later)
-
-  one-in : f n ≡ true → (eqb j n || (ltb j n && f j)) ≡ (ltb j (suc n) && f j)
-  one-in p = at (decLt j n) (decLt n j)
-    where
-      at : Dec (j < n) → Dec (n < j) → (eqb j n || (ltb j n && f j)) ≡ (ltb j (suc n) && f j)
-      at (yes h) w = rw (ne-eqb j n (λ e. omega arith)) (sym (earlier h))
-      at (no h) (yes w) =
-          let above : n ≤ j = omega arith in
-          let past-it : suc n ≤ j = w in
-          rw (ne-eqb j n (λ e. omega arith), le-ltb j n above, le-ltb j (suc n) past-it)
-      at (no h) (no w) =
-          let e : j ≡ n = omega arith in
-          let later : n < suc n = omega arith in
-          rw (e, eq-eqb n n refl, lt-ltb n (suc n) later) (sym p)
-
-  one-out : f n ≡ false → (ltb j n && f j) ≡ (ltb j (suc n) && f j)
-  one-out p = at (decLt j n) (decLt n j)
-    where
-      at : Dec (j < n) → Dec (n < j) → (ltb j n && f j) ≡ (ltb j (suc n) && f j)
-      at (yes h) w = sym (earlier h)
-      at (no h) (yes w) =
-          let above : n ≤ j = omega arith in
-          let past-it : suc n ≤ j = w in
-          rw (le-ltb j n above, le-ltb j (suc n) past-it)
-      at (no h) (no w) =
-          let e : j ≡ n = omega arith in
-          rw (e, p) (and-ended (ltb n n) false refl ∙ sym (and-ended (ltb n (suc n)) false refl))
-
-gathered-below : (t : List ℕ) (m n : ℕ) → n ≤ countOf Instance → (j : ℕ) → goes (gathered t m n) j ≡ (ltb j n && thoseOf t m j)
-unfolding gathered
-gathered-below t m zero h j = goes-nothing j ∙ sym (rw (le-ltb j 0 zero-le))
-gathered-below t m (suc n) h j = at (thoseOf t m n) refl (gathered-below t m n (omega arith) j)
-  where
-    at : (b : Bool) → thoseOf t m n ≡ b → goes (gathered t m n) j ≡ (ltb j n && thoseOf t m j) → goes (cond b (withNumber (gathered t m n) n) (gathered t m n)) j ≡ (ltb j (suc n) && thoseOf t m j)
-    at true p e = goes-with (gathered t m n) n j h ∙ ap (λ (b : Bool). eqb j n || b) e ∙ one-in (thoseOf t m) n j p
-    at false p e = e ∙ one-out (thoseOf t m) n j p
-
 -- **The instances of a model that is deleted go, and no others do.**
-pub goes-those : (t : List ℕ) (m : ℕ) → goes (gathered t m (countOf Instance)) ≡ thoseOf t m
-goes-those t m = fun-ext (λ j. gathered-below t m (countOf Instance) (omega arith) j ∙ at j (decLt j (countOf Instance)))
+pub goes-those : (t : List ℕ) (m : ℕ) → goes (gathered t m) ≡ thoseOf t m
+goes-those t m = fun-ext (λ j. at j (zone j))
   where
-    at : (j : ℕ) → Dec (j < countOf Instance) → (ltb j (countOf Instance) && thoseOf t m j) ≡ thoseOf t m j
-    at j (yes h) = rw (lt-ltb j (countOf Instance) h)
-    at j (no h) =
-        let above : countOf Instance ≤ j = omega arith in
-        rw (le-ltb j (countOf Instance) above)
+    -- instance j is number k of its half
+    member : (from k j : ℕ) → k < bits → from + k ≡ j → has (halfOf t m from) k ≡ thoseOf t m j
+    member from k j h e = set-member (λ i. thoseOf t m (from + i)) bits k (omega arith) h ∙ ap (thoseOf t m) e
+
+    at : (j : ℕ) → Zone j → goes (gathered t m) j ≡ thoseOf t m j
+    at j (in-low h) = goes-low (gathered t m) j h ∙ member 0 j j h (omega arith)
+    at j (in-high h l) = goes-high (gathered t m) j h l ∙ member bits (j - bits) j (omega arith) (omega arith)
+    at j (past h) = goes-past (gathered t m) j h ∙ ne-eqb j 0 (λ e. omega arith) ∙ sym (rw (le-ltb j (countOf Instance) h))

@@ -1,8 +1,8 @@
 -- Models and schema instances: what a pass over the labels keeps, and that the words before the first instance decide all that is asked of them.
-use mathlib.Core.Path.{_≡_, refl, ap, _∙_}
+use mathlib.Core.Path.{_≡_, refl, ap, _∙_, fun-ext}
 use mathlib.Core.Bool.{Bool, true, false, cond, _&&_, _||_, not, and-true}
 use mathlib.Core.List.{List}
-use Prim.Native.Nat.{ℕ, zero, suc, _+_, _≤_, _<_}
+use Prim.Native.Nat.{ℕ, _+_, _≤_, _<_}
 use native.Mathlib.Nat.{add-zero}
 use native.Mathlib.Omega.{arith}
 use lib.Dec.{eqb}
@@ -12,7 +12,7 @@ use Rattle.words.specs.declared.layout.Kind.{Kind}
 use Rattle.words.specs.declared.layout.Kind.the-variants.{Model, SchemaInstance, Instance}
 use Rattle.words.specs.Layout.{words, baseOf, strideOf, countOf, placeOf}
 use Rattle.words.specs.Search.{allB}
-use Rattle.words.specs.Sets.{none, bits, has}
+use Rattle.words.specs.Sets.{none, bits, has, setOf}
 use Rattle.words.specs.Fields.{schemaIn, isLabel}
 use Rattle.words.specs.Entries.{inEntry, wordOf, freeAt}
 use Rattle.words.specs.Copies.{isLong, sameAt}
@@ -27,7 +27,7 @@ use Rattle.tables.specs.declared.labels.Tested.the-variants.{Sound, Unso
 use Rattle.tables.specs.View.{labelAt, setAt}
 use Rattle.tables.specs.Sound.{distinct, mayJoin, soundGroup, soundInstance, soundTable}
 use Rattle.tables.specs.Names.{isNew, buckets, bucketOf}
-use Rattle.tables.specs.Live.{liveOf, liveBelow, liveIn, noLive, withLive}
+use Rattle.tables.specs.Live.{isOf, liveOf, liveBelow, liveIn, noLive, withLive}
 use Rattle.tables.specs.Labels.{labelled, soundLabels, tested, testedLabels, soundEntries, sameEntries}
 use Rattle.tables.specs.Laws.Tests.{all-same}
 use Rattle.tables.specs.Laws.Sound.{distinct-alike, group-alike}
@@ -60,7 +60,7 @@ pub record Passed (t : List ℕ) (kind : Kind) (filled : List ℕ) (live : Live)
 
 module _ (t : List ℕ) (kind : Kind) where
   pub none-passed : (filled : List ℕ) → length filled ≡ buckets → Passed t kind filled noLive 0
-  unfolding allB liveOf
+  unfolding allB setOf
   none-passed filled n = record { labels = refl; names = refl; size = n; fallen = λ j l live. absurd (omega arith); sets = refl }
 
   module _ (filled : List ℕ) (live : Live) (i : ℕ) (passed : Passed t kind filled live i) where
@@ -165,9 +165,7 @@ module _ (a b : List ℕ) (same : sameEntries a b ≡ true) where
   set-alike = entry-alike SchemaInstance (λ i k hi hk. omega arith)
 
   live-of-alike : (schema n : ℕ) → liveOf a Model schema n ≡ liveOf b Model schema n
-  unfolding liveOf
-  live-of-alike schema zero = refl
-  live-of-alike schema (suc n) = rw (model-alike n 0, live-of-alike schema n)
+  live-of-alike schema n = ap (λ (label : ℕ → ℕ). setOf n (λ i. isOf schema (label i))) (fun-ext (λ i. model-alike i 0))
 
   pub live-alike : liveIn a Model ≡ liveIn b Model
   live-alike = rw (live-of-alike 1 (countOf Model), live-of-alike 2 (countOf Model))

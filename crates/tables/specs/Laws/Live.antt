@@ -1,32 +1,31 @@
 -- The sets of live models: their members, and that the tests by one word are those of Sound.antt.
 use mathlib.Core.Path.{_≡_, refl, sym, ap, _∙_}
 use mathlib.Core.Bool.{Bool, true, false, cond, not, _&&_, _||_}
-use mathlib.Core.Logic.{⊎-elim}
 use mathlib.Core.List.{List}
 use Prim.Native.Nat.{ℕ, zero, suc, _/_, _+_, _%_, _^_, min, _≤_, _<_}
-use native.Mathlib.Nat.{eq-or-lt-of-le, le-of-suc-le-suc, mod-eq-of-lt}
+use native.Mathlib.Nat.{mod-eq-of-lt}
 use native.Mathlib.Decide.{decLt}
 use native.Mathlib.Numerals.{add-one}
 use native.Mathlib.Omega.{arith}
 use lib.Dec.{eqb, ltb}
 use lib.Bits.{bitAnd, and-step, and-shr, and-le-l}
-use borrow.Author.Tests.{eq-eqb, ne-eqb, eqb-true, eqb-false, lt-ltb, le-ltb}
+use borrow.Author.Tests.{eqb-true, eqb-false, lt-ltb, le-ltb}
 use Rattle.words.specs.declared.layout.Kind.{Kind}
 use Rattle.words.specs.declared.layout.Kind.the-variants.{Model, SchemaInstance}
 use Rattle.words.specs.Layout.{countOf}
-use Rattle.words.specs.Sets.{bits, bitOf, has, insert}
+use Rattle.words.specs.Sets.{bits, bitOf, has, insert, setOf}
 use Rattle.words.specs.Fields.{schemaIn, typeIn, modelIn, isLabel}
 use Rattle.words.specs.Entries.{freeAt}
 use Rattle.words.specs.Laws.Bools.{and-right}
 use Rattle.words.specs.Laws.Decides.{equal, every, restated}
-use Rattle.words.specs.Laws.Sets.{has-none, has-insert, has-past, same-members}
+use Rattle.words.specs.Laws.Sets.{has-past, set-later, set-member, same-members}
 use Rattle.words.specs.Laws.Fields.{Label, label-test, label-is-live}
 use Rattle.dictionary.specs.Dictionary.{isType, schemaOf}
 use Rattle.dictionary.specs.TypeLaws.{type-schema}
 use Rattle.tables.specs.declared.live.Live.{Live}
 use Rattle.tables.specs.View.{isLive, labelAt, setAt}
 use Rattle.tables.specs.Sound.{soundGroup}
-use Rattle.tables.specs.Live.{isOf, withIf, liveOf, liveBelow, liveIn, withLive, ofSchema, within, modelFits}
+use Rattle.tables.specs.Live.{isOf, liveOf, liveBelow, liveIn, withLive, ofSchema, within, modelFits}
 use Rattle.tables.specs.Laws.Tests.{itself, implied, same-test, all-same}
 
 -- ---- a set within another
@@ -62,35 +61,14 @@ within-by-and s o h =
 
 -- ---- the members of the sets
 
-has-own : (b : Bool) (s n : ℕ) → n < bits → has s n ≡ false → has (withIf b s n) n ≡ b
-has-own true s n l h = has-insert s n n l ∙ rw (eq-eqb n n refl)
-has-own false s n l h = h
-
-has-other : (b : Bool) (s n m : ℕ) → n < bits → (m ≡ n → ⊥) → has (withIf b s n) m ≡ has s m
-has-other true s n m l apart = has-insert s n m l ∙ rw (ne-eqb m n apart)
-has-other false s n m l apart = refl
-
 module _ (t : List ℕ) (schema : ℕ) where
-  live-later : (n m : ℕ) → n ≤ bits → n ≤ m → has (liveOf t Model schema n) m ≡ false
-  unfolding liveOf
-  live-later zero m h l = has-none m
-  live-later (suc n) m h l = has-other (isOf schema (labelAt t Model n)) (liveOf t Model schema n) n m (omega arith) (λ e. omega arith) ∙ live-later n m (omega arith) (omega arith)
-
-  live-member : (n m : ℕ) → n ≤ bits → m < n → has (liveOf t Model schema n) m ≡ isOf schema (labelAt t Model m)
-  unfolding liveOf
-  live-member zero m h l = absurd (omega arith)
-  live-member (suc n) m h l =
-      ⊎-elim (λ e. rw e (has-own (isOf schema (labelAt t Model n)) (liveOf t Model schema n) n (omega arith) (live-later n n (omega arith) (omega arith))))
-      (λ k. has-other (isOf schema (labelAt t Model n)) (liveOf t Model schema n) n m (omega arith) (λ e. omega arith) ∙ live-member n m (omega arith) k)
-      (eq-or-lt-of-le (le-of-suc-le-suc l))
-
   -- a number past the last model is in no set
   live-has : (m : ℕ) → has (liveOf t Model schema (countOf Model)) m ≡ isOf schema (labelAt t Model m)
   live-has m = told (decLt m (countOf Model))
     where
       told : Dec (m < countOf Model) → has (liveOf t Model schema (countOf Model)) m ≡ isOf schema (labelAt t Model m)
-      told (yes l) = live-member (countOf Model) m (omega arith) l
-      told (no l) = live-later (countOf Model) m (omega arith) (omega arith) ∙ rw (le-ltb m (countOf Model) (omega arith))
+      told (yes l) = set-member (λ i. isOf schema (labelAt t Model i)) (countOf Model) m (omega arith) l
+      told (no l) = set-later (λ i. isOf schema (labelAt t Model i)) (countOf Model) m (omega arith) (omega arith) ∙ rw (le-ltb m (countOf Model) (omega arith))
 
   -- both schemas
   pub live-of-schema : 1 ≤ schema → schema ≤ 2 → (m : ℕ) → has (ofSchema (liveIn t Model) schema) m ≡ isOf schema (labelAt t Model m)
@@ -107,14 +85,14 @@ module _ (t : List ℕ) (schema : ℕ) where
 
 module _ (t : List ℕ) (kind : Kind) (i : ℕ) where
   pub live-free : freeAt t kind i ≡ true → liveBelow t kind i ≡ liveBelow t kind (i + 1)
-  unfolding liveOf
+  unfolding setOf
   live-free e = rw (add-one, e)
 
   pub live-more : Label (labelAt t kind i) → withLive (liveBelow t kind i) (schemaIn (labelAt t kind i)) i ≡ liveBelow t kind (i + 1)
-  unfolding liveOf
+  unfolding setOf
   live-more w = rw (add-one, label-is-live (labelAt t kind i) w) (told (eqb (schemaIn (labelAt t kind i)) 1) refl)
     where
-      told : (b : Bool) → eqb (schemaIn (labelAt t kind i)) 1 ≡ b → _≡_ {A = Live} (cond b (record { first = insert (liveOf t kind 1 i) i; second = liveOf t kind 2 i }) (record { first = liveOf t kind 1 i; second = insert (liveOf t kind 2 i) i })) (record { first = withIf b (liveOf t kind 1 i) i; second = withIf (eqb (schemaIn (labelAt t kind i)) 2) (liveOf t kind 2 i) i })
+      told : (b : Bool) → eqb (schemaIn (labelAt t kind i)) 1 ≡ b → _≡_ {A = Live} (cond b (record { first = insert (liveOf t kind 1 i) i; second = liveOf t kind 2 i }) (record { first = liveOf t kind 1 i; second = insert (liveOf t kind 2 i) i })) (record { first = cond b (insert (liveOf t kind 1 i) i) (liveOf t kind 1 i); second = cond (eqb (schemaIn (labelAt t kind i)) 2) (insert (liveOf t kind 2 i) i) (liveOf t kind 2 i) })
       told true e =
           let one : schemaIn (labelAt t kind i) ≡ 1 = eqb-true (schemaIn (labelAt t kind i)) 1 e in
           rw (one)

@@ -7,7 +7,6 @@ use native.Mathlib.Decide.{decLt, ℕ-discrete}
 use native.Mathlib.Omega.{arith}
 use borrow.Author.Tests.{le-ltb, ltb-true, ne-eqb}
 use Rattle.words.specs.declared.layout.Kind.the-variants.{Instance}
-use Rattle.words.specs.Layout.{countOf}
 use Rattle.words.specs.Search.{anyB}
 use Rattle.words.specs.Sets.{has}
 use Rattle.words.specs.Fields.{values, typeIn, flagsIn, flagged, isFree}
@@ -18,10 +17,8 @@ use Rattle.words.specs.Laws.Fields.{flag-of-flags}
 use Rattle.dictionary.specs.Dictionary.{isReference, attributeOf}
 use Rattle.dictionary.specs.References.{referenceOf, reference-other, reference-is}
 use Rattle.tables.specs.View.{isLive, headerAt, typeAt, modelAt, isSet, valueAt}
-use Rattle.tables.specs.References.{theInstance, thoseOf, refers, holdsBack, heldBack}
-use Rattle.tables.specs.Going.{goes, oneGoing, gathered}
+use Rattle.tables.specs.References.{refers, holdsBack}
 use Rattle.tables.specs.Pointers.{pointerIn}
-use Rattle.tables.specs.Laws.Going.{goes-one, goes-those}
 
 -- ---- the one attribute that may refer
 
@@ -90,12 +87,3 @@ module _ (t : List ℕ) (gone : ℕ → Bool) (access i : ℕ) where
       let w : Pointer t gone i (pointerIn (headerAt t i)) = the-pointer t gone i n in
       rw (pointing-live (headerAt t i) n, e, q)
       (any-only values (refers t gone i) (pointerIn (headerAt t i)) (w .below) (λ k d. refers-other t gone i k (λ r. d (r ∙ sym (w .reference)))) ∙ w .asks)
-
--- ---- by the set of those that go
-
-module _ (t : List ℕ) where
-  pub held-by-one : (i access : ℕ) → heldBack t (goes (oneGoing i)) access ≡ heldBack t (theInstance i) access
-  held-by-one i access = ap (λ (f : ℕ → Bool). heldBack t f access) (goes-one i)
-
-  pub held-by-those : (m access : ℕ) → heldBack t (goes (gathered t m (countOf Instance))) access ≡ heldBack t (thoseOf t m) access
-  held-by-those m access = ap (λ (f : ℕ → Bool). heldBack t f access) (goes-those t m)

@@ -1,6 +1,6 @@
 -- Two tables: agreement word by word, what a copy holds, and that the words beyond those in use play no part.
-use mathlib.Core.Path.{_≡_, refl, sym, ap, _∙_}
-use mathlib.Core.Bool.{Bool, true, false, _&&_}
+use mathlib.Core.Path.{_≡_, sym, _∙_}
+use mathlib.Core.Bool.{false}
 use mathlib.Core.List.{List, _++_}
 use Prim.Native.Nat.{ℕ, suc, _+_, _≤_, _<_}
 use native.Mathlib.Numerals.{add-one}
@@ -14,9 +14,8 @@ use Rattle.words.specs.Layout.{words}
 use Rattle.words.specs.Entries.{wordOf}
 use Rattle.words.specs.Search.{allB}
 use Rattle.words.specs.Copies.{sameAt, agree, inBoth, copied}
-use Rattle.words.specs.Laws.Bools.{and-left, and-right, and-ended}
+use Rattle.words.specs.Laws.Bools.{and-ended}
 use Rattle.words.specs.Laws.Decides.{Decides, both, equal, at-most, every, restated}
-use Rattle.words.specs.Laws.Search.{all-more, all-at}
 use Rattle.words.specs.Laws.Entries.{word-alike}
 
 -- one word more is copied
@@ -25,7 +24,7 @@ copy-more from to i hf ht =
     rw (add-one, drop-cons to i 0 ht, take-suc from i 0 hf, append-snoc)
     (set-at (take i from) (getD to i 0) (drop (suc i) to) (getD from i 0) i (length-take-le i from (omega arith)))
 
--- the tests of `agree`, a turn of four words and one of one word
+-- the tests of `agree`
 module _ (a b : List ℕ) where
   pub short-left : length a < words → agree a b ≡ false
   short-left h = rw (lt-leb words (length a) h)
@@ -35,26 +34,6 @@ module _ (a b : List ℕ) where
 
   pub both-long : words ≤ length a → words ≤ length b → agree a b ≡ allB words (sameAt a b)
   both-long ha hb = rw (le-leb words (length a) ha, le-leb words (length b) hb)
-
-module _ (f : ℕ → Bool) where
-  next : (j k : ℕ) → k ≡ j + 1 → allB j f ≡ true → f j ≡ true → allB k f ≡ true
-  next j k e h p = ap (λ (n : ℕ). allB n f) e ∙ all-more f j h p
-
-  pub four-more : (i : ℕ) → allB i f ≡ true → (f i && f (i + 1) && f (i + 2) && f (i + 3)) ≡ true → allB (i + 4) f ≡ true
-  four-more i h e =
-      let three = and-left (f i && f (i + 1) && f (i + 2)) (f (i + 3)) e in
-      let two = and-left (f i && f (i + 1)) (f (i + 2)) three in
-      let one-on = next i (i + 1) refl h (and-left (f i) (f (i + 1)) two) in
-      let two-on = next (i + 1) (i + 2) (omega arith) one-on (and-right (f i) (f (i + 1)) two) in
-      let three-on = next (i + 2) (i + 3) (omega arith) two-on (and-right (f i && f (i + 1)) (f (i + 2)) three) in
-      next (i + 3) (i + 4) (omega arith) three-on (and-right (f i && f (i + 1) && f (i + 2)) (f (i + 3)) e)
-
-  pub four-stop : (n i : ℕ) → i + 4 ≤ n → (f i && f (i + 1) && f (i + 2) && f (i + 3)) ≡ false → allB n f ≡ false
-  four-stop n i l e = tell (allB n f) refl
-    where
-      tell : (b : Bool) → allB n f ≡ b → b ≡ false
-      tell false h = refl
-      tell true h = sym (rw (all-at n f h i (omega arith), all-at n f h (i + 1) (omega arith), all-at n f h (i + 2) (omega arith)) (all-at n f h (i + 3) (omega arith))) ∙ e
 
 -- ---- agreement
 

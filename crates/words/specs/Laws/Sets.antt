@@ -95,7 +95,7 @@ has-other true s n m l apart = has-insert s n m l ∙ rw (ne-eqb m n apart)
 has-other false s n m l apart = refl
 
 module _ (f : ℕ → Bool) where
-  set-later : (n m : ℕ) → n ≤ bits → n ≤ m → has (setOf n f) m ≡ false
+  pub set-later : (n m : ℕ) → n ≤ bits → n ≤ m → has (setOf n f) m ≡ false
   unfolding setOf
   set-later zero m h l = has-none m
   set-later (suc n) m h l = has-other (f n) (setOf n f) n m (omega arith) (λ e. omega arith) ∙ set-later n m (omega arith) (omega arith)

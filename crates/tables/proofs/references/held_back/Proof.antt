@@ -8,16 +8,15 @@ use Rattle.words.specs.declared.layout.Kind.the-variants.{Instance}
 use Rattle.words.specs.Layout.{countOf}
 use Rattle.words.specs.Search.{anyB}
 use Rattle.words.specs.Laws.Search.{none-more, any-stop, none-done}
-use Rattle.tables.specs.References.{holdsBack, heldBack}
-use Rattle.tables.specs.Going.{goes}
+use Rattle.tables.specs.References.{goesWith, holdsBack, heldBack}
 use Rattle.tables.proofs.references.held_back.Statement.{statement}
 use Rattle.tables.proofs.references.held_back.Tie as tie
 
 abbrev Inv-loop : tie.InvT-loop
-Inv-loop t g rw n i₀ i = (i ≤ n) × (n ≡ countOf Instance) × (anyB i (holdsBack t (goes g) rw) ≡ false)
+Inv-loop t d rw n i₀ i = (i ≤ n) × (n ≡ countOf Instance) × (anyB i (holdsBack t (goesWith t d) rw) ≡ false)
 
 abbrev μ-loop : tie.MeasureT-loop
-μ-loop t g rw n i₀ i = n - i
+μ-loop t d rw n i₀ i = n - i
 
 count-requires : tie.Need-count-requires Inv-loop μ-loop
 count-requires c κs = search needs
@@ -31,7 +30,7 @@ holds-back-requires c κs = search needs
 
 returns : tie.Need-returns Inv-loop μ-loop
 unfolding heldBack
-returns c = sym (any-stop (countOf Instance) (holdsBack (c .before .before .before .before .before .before .args .t .now) (goes (c .before .before .before .before .before .before .args .g)) (c .before .before .before .before .before .before .args .«rw»)) (c .before .before .before .loop .i) (omega arith) (sym (c .before .holds-back .ensures) ∙ c .if1 .taken))
+returns c = sym (any-stop (countOf Instance) (holdsBack (c .before .before .before .before .before .before .args .t .now) (goesWith (c .before .before .before .before .before .before .args .t .now) (c .before .before .before .before .before .before .args .d)) (c .before .before .before .before .before .before .args .«rw»)) (c .before .before .before .loop .i) (omega arith) (sym (c .before .holds-back .ensures) ∙ c .if1 .taken))
 
 add-i : tie.Need-add-i Inv-loop μ-loop
 add-i c = omega arith
@@ -40,11 +39,11 @@ loop-less : tie.Need-loop-less Inv-loop μ-loop
 loop-less c = omega arith
 
 loop-again : tie.Need-loop-again Inv-loop μ-loop
-loop-again c = (omega arith, c .before .before .before .loop .inv .1, none-more (holdsBack (c .before .before .before .before .before .before .args .t .now) (goes (c .before .before .before .before .before .before .args .g)) (c .before .before .before .before .before .before .args .«rw»)) (c .before .before .before .loop .i) (c .before .before .before .loop .inv .2) (sym (c .before .holds-back .ensures) ∙ c .if1 .left))
+loop-again c = (omega arith, c .before .before .before .loop .inv .1, none-more (holdsBack (c .before .before .before .before .before .before .args .t .now) (goesWith (c .before .before .before .before .before .before .args .t .now) (c .before .before .before .before .before .before .args .d)) (c .before .before .before .before .before .before .args .«rw»)) (c .before .before .before .loop .i) (c .before .before .before .loop .inv .2) (sym (c .before .holds-back .ensures) ∙ c .if1 .left))
 
 returns-2 : tie.Need-returns-2 Inv-loop μ-loop
 unfolding heldBack
-returns-2 c = sym (none-done (holdsBack (c .before .before .before .before .args .t .now) (goes (c .before .before .before .before .args .g)) (c .before .before .before .before .args .«rw»)) (countOf Instance) (c .before .loop .i) (omega arith) (omega arith) (c .before .loop .inv .2))
+returns-2 c = sym (none-done (holdsBack (c .before .before .before .before .args .t .now) (goesWith (c .before .before .before .before .args .t .now) (c .before .before .before .before .args .d)) (c .before .before .before .before .args .«rw»)) (countOf Instance) (c .before .loop .i) (omega arith) (omega arith) (c .before .loop .inv .2))
 
 pub held-back-spec : {M : Type 1} → statement M
 held-back-spec =

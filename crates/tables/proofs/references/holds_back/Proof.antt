@@ -2,7 +2,7 @@
 use mathlib.Core.Path.{_≡_, sym, ap, _∙_}
 use Rattle.words.specs.Sets.{has}
 use Rattle.tables.specs.View.{headerAt, modelAt, valueAt}
-use Rattle.tables.specs.Going.{goes}
+use Rattle.tables.specs.References.{goesWith}
 use Rattle.tables.specs.Pointers.{pointerIn}
 use Rattle.tables.specs.Laws.References.{bare-holds, gone-holds, open-holds, holds-told}
 use borrow.Author.Needs.{needs}
@@ -25,19 +25,19 @@ has-requires : tie.Need-has-requires
 has-requires c κs = search needs
 
 returns : tie.Need-returns
-returns c = sym (open-holds (c .before .before .before .before .before .args .t .now) (goes (c .before .before .before .before .before .args .g)) (c .before .before .before .before .before .args .«rw») (c .before .before .before .before .before .args .i) (access (c .before) ∙ c .if1 .taken))
+returns c = sym (open-holds (c .before .before .before .before .before .args .t .now) (goesWith (c .before .before .before .before .before .args .t .now) (c .before .before .before .before .before .args .d)) (c .before .before .before .before .before .args .«rw») (c .before .before .before .before .before .args .i) (access (c .before) ∙ c .if1 .taken))
 
 pointer-in-requires : tie.Need-pointer-in-requires
 pointer-in-requires c κs = search needs
 
 returns-2 : tie.Need-returns-2
-returns-2 c = sym (bare-holds (c .before .before .before .before .before .before .before .args .t .now) (goes (c .before .before .before .before .before .before .before .args .g)) (c .before .before .before .before .before .before .before .args .«rw») (c .before .before .before .before .before .before .before .args .i) (sym (pointer (c .before)) ∙ c .if2 .taken))
+returns-2 c = sym (bare-holds (c .before .before .before .before .before .before .before .args .t .now) (goesWith (c .before .before .before .before .before .before .before .args .t .now) (c .before .before .before .before .before .before .before .args .d)) (c .before .before .before .before .before .before .before .args .«rw») (c .before .before .before .before .before .before .before .args .i) (sym (pointer (c .before)) ∙ c .if2 .taken))
 
 goes-requires : tie.Need-goes-requires
 goes-requires c κs = search needs
 
 returns-3 : tie.Need-returns-3
-returns-3 c = sym (gone-holds (c .before .before .before .before .before .before .before .before .before .args .t .now) (goes (c .before .before .before .before .before .before .before .before .before .args .g)) (c .before .before .before .before .before .before .before .before .before .args .«rw») (c .before .before .before .before .before .before .before .before .before .args .i) (sym (c .before .goes .ensures) ∙ c .if3 .taken))
+returns-3 c = sym (gone-holds (c .before .before .before .before .before .before .before .before .before .args .t .now) (goesWith (c .before .before .before .before .before .before .before .before .before .args .t .now) (c .before .before .before .before .before .before .before .before .before .args .d)) (c .before .before .before .before .before .before .before .before .before .args .«rw») (c .before .before .before .before .before .before .before .before .before .args .i) (sym (c .before .goes .ensures) ∙ c .if3 .taken))
 
 value-at-requires : tie.Need-value-at-requires
 value-at-requires c κs = search needs
@@ -46,7 +46,7 @@ goes-requires-2 : tie.Need-goes-requires-2
 goes-requires-2 c κs = search needs
 
 returns-4 : tie.Need-returns-4
-returns-4 c = c .goes2 .ensures ∙ ap (goes (c .before .before .before .before .before .before .before .before .before .before .before .args .g)) (c .before .value-at .ensures ∙ ap (valueAt (c .before .before .before .before .before .before .before .before .before .before .before .args .t .now) (c .before .before .before .before .before .before .before .before .before .before .before .args .i)) (pointer (c .before .before .before .before .before))) ∙ sym (holds-told (c .before .before .before .before .before .before .before .before .before .before .before .args .t .now) (goes (c .before .before .before .before .before .before .before .before .before .before .before .args .g)) (c .before .before .before .before .before .before .before .before .before .before .before .args .«rw») (c .before .before .before .before .before .before .before .before .before .before .before .args .i) (λ e. c .before .before .before .before .if2 .left (pointer (c .before .before .before .before .before) ∙ e)) (sym (c .before .before .before .goes .ensures) ∙ c .before .before .if3 .left) (access (c .before .before .before .before .before .before .before) ∙ c .before .before .before .before .before .before .if1 .left))
+returns-4 c = c .goes2 .ensures ∙ ap (goesWith (c .before .before .before .before .before .before .before .before .before .before .before .args .t .now) (c .before .before .before .before .before .before .before .before .before .before .before .args .d)) (c .before .value-at .ensures ∙ ap (valueAt (c .before .before .before .before .before .before .before .before .before .before .before .args .t .now) (c .before .before .before .before .before .before .before .before .before .before .before .args .i)) (pointer (c .before .before .before .before .before))) ∙ sym (holds-told (c .before .before .before .before .before .before .before .before .before .before .before .args .t .now) (goesWith (c .before .before .before .before .before .before .before .before .before .before .before .args .t .now) (c .before .before .before .before .before .before .before .before .before .before .before .args .d)) (c .before .before .before .before .before .before .before .before .before .before .before .args .«rw») (c .before .before .before .before .before .before .before .before .before .before .before .args .i) (λ e. c .before .before .before .before .if2 .left (pointer (c .before .before .before .before .before) ∙ e)) (sym (c .before .before .before .goes .ensures) ∙ c .before .before .if3 .left) (access (c .before .before .before .before .before .before .before) ∙ c .before .before .before .before .before .before .if1 .left))
 
 pub holds-back-spec : {M : Type 1} → statement M
 holds-back-spec =
