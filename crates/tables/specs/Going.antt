@@ -1,4 +1,4 @@
--- The instances that go with a deletion, as a set of numbers.
+-- The instances that go with a deletion: asked one by one, and as a set of numbers.
 use Prim.Native.Nat.{ℕ, _+_, _-_}
 use mathlib.Core.Bool.{Bool, cond}
 use mathlib.Core.List.{List}
@@ -7,7 +7,13 @@ use Rattle.words.specs.declared.layout.Kind.the-variants.{Instance}
 use Rattle.words.specs.Layout.{countOf}
 use Rattle.words.specs.Sets.{bits, none, has, insert, setOf}
 use Rattle.tables.specs.declared.going.Going.{Going}
-use Rattle.tables.specs.References.{thoseOf}
+use Rattle.tables.specs.declared.references.Deletion.{Deletion}
+use Rattle.tables.specs.declared.references.Deletion.the-variants.{OfInstance, OfModel}
+use Rattle.tables.specs.References.{theInstance, thoseOf}
+
+abbrev pub goesWith : List ℕ → Deletion → ℕ → Bool
+goesWith t (OfInstance i) = theInstance i
+goesWith t (OfModel m) = thoseOf t m
 
 -- bit j of `low` for a number below 64, of `high` for those up to 127; past the last instance one number at most
 abbrev pub goes : Going → ℕ → Bool

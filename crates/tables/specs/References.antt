@@ -9,8 +9,6 @@ use Rattle.words.specs.Search.{anyB}
 use Rattle.words.specs.Sets.{has}
 use Rattle.words.specs.Fields.{values}
 use Rattle.dictionary.specs.Dictionary.{isReference, attributeOf}
-use Rattle.tables.specs.declared.references.Deletion.{Deletion}
-use Rattle.tables.specs.declared.references.Deletion.the-variants.{OfInstance, OfModel}
 use Rattle.tables.specs.View.{isLive, setAt, typeAt, modelAt, isSet, valueAt}
 
 -- those that go with a deletion: of an instance, of a model
@@ -19,10 +17,6 @@ theInstance i j = eqb j i
 
 abbrev pub thoseOf : List ℕ → ℕ → ℕ → Bool
 thoseOf t m j = isLive t Instance j && eqb (modelAt t j) m
-
-abbrev pub goesWith : List ℕ → Deletion → ℕ → Bool
-goesWith t (OfInstance i) = theInstance i
-goesWith t (OfModel m) = thoseOf t m
 
 -- attribute k of instance i is set and refers to an instance that goes
 abbrev pub refers : List ℕ → (ℕ → Bool) → ℕ → ℕ → Bool

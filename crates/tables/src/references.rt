@@ -4,6 +4,7 @@ ghost use mathlib.Core.Path.{_≡_};
 ghost use mathlib.Core.Bool.{_&&_};
 ghost use Rattle.words.specs.Sets.{has as hasBit};
 ghost use Rattle.tables.specs.References as spec;
+ghost use Rattle.tables.specs.Going.{goesWith};
 ghost use Rattle.tables.specs.Pointers.{pointerIn};
 use crate::going;
 use crate::view::header_at;
@@ -39,7 +40,7 @@ pub enum Deletion {
 
 // Whether instance j goes with it. What a value word names may be any number.
 fn goes(t: &[u64], d: Deletion, j: u64) -> bool
-    ensures { λ r. ⌜ r ≡ spec.goesWith (now (t .entry)) d j ⌝ }
+    ensures { λ r. ⌜ r ≡ goesWith (now (t .entry)) d j ⌝ }
 {
     match d {
         Deletion::OfInstance(i) => j == (i as u64),
@@ -56,7 +57,7 @@ fn goes(t: &[u64], d: Deletion, j: u64) -> bool
 // "an instance that stays, in another model without RW access, refers to one that would go". Access is asked first: it
 // needs no dictionary.
 fn holds_back(t: &[u64], d: Deletion, rw: u64, i: u32) -> bool
-    ensures { λ r. ⌜ r ≡ spec.holdsBack (now (t .entry)) (spec.goesWith (now (t .entry)) d) rw i ⌝ }
+    ensures { λ r. ⌜ r ≡ spec.holdsBack (now (t .entry)) (goesWith (now (t .entry)) d) rw i ⌝ }
 {
     let header = header_at(t, i);
     if has(rw, model_in(header)) {
@@ -73,7 +74,7 @@ fn holds_back(t: &[u64], d: Deletion, rw: u64, i: u32) -> bool
 }
 
 pub fn held_back(t: &[u64], d: Deletion, rw: u64) -> bool
-    ensures { λ r. ⌜ r ≡ spec.heldBack (now (t .entry)) (spec.goesWith (now (t .entry)) d) rw ⌝ }
+    ensures { λ r. ⌜ r ≡ spec.heldBack (now (t .entry)) (goesWith (now (t .entry)) d) rw ⌝ }
 {
     let n = count(Kind::Instance);
     let mut i = 0;

@@ -8,7 +8,8 @@ use Rattle.words.specs.declared.layout.Kind.the-variants.{Instance}
 use Rattle.words.specs.Layout.{countOf}
 use Rattle.words.specs.Search.{anyB}
 use Rattle.words.specs.Laws.Search.{none-more, any-stop, none-done}
-use Rattle.tables.specs.References.{goesWith, holdsBack, heldBack}
+use Rattle.tables.specs.References.{holdsBack, heldBack}
+use Rattle.tables.specs.Going.{goesWith}
 use Rattle.tables.proofs.references.held_back.Statement.{statement}
 use Rattle.tables.proofs.references.held_back.Tie as tie
 

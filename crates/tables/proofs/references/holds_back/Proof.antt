@@ -2,7 +2,7 @@
 use mathlib.Core.Path.{_≡_, sym, ap, _∙_}
 use Rattle.words.specs.Sets.{has}
 use Rattle.tables.specs.View.{headerAt, modelAt, valueAt}
-use Rattle.tables.specs.References.{goesWith}
+use Rattle.tables.specs.Going.{goesWith}
 use Rattle.tables.specs.Pointers.{pointerIn}
 use Rattle.tables.specs.Laws.References.{bare-holds, gone-holds, open-holds, holds-told}
 use borrow.Author.Needs.{needs}
