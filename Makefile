@@ -4,7 +4,7 @@
 help:
 	@echo 'make demo             the ten records of document 01, and the lines that the program prints for them'
 	@echo 'make edges            the cases at the edges, and what each gives'
-	@echo 'make test             layout of the files, the tests outside the prover, then everything proved from nothing, with the must-fail edits'
+	@echo 'make test             layout of the files, everything proved from nothing, with the must-fail edits, then the tests outside the prover'
 	@echo 'make outside          the tests outside the prover alone (CALLS=n SEED=n VECTORS=folder)'
 	@echo 'make check CRATE=x    one crate and what it stands on'
 	@echo 'make lib              target/chip: libchip.a and chip.h, for C or Rust on x86-64 to link'
@@ -23,10 +23,12 @@ edges: kit
 	rt check edges
 	tools/run target/bin/edges
 
+# The outside tests come after the proofs, since they run what was proved; the verdict of the proofs is the last line.
 test: kit
 	rt fmt --check
+	tools/ci
 	tests/run
-	rt ci
+	@cat target/verdict
 
 outside: kit
 	tests/run

@@ -38,8 +38,7 @@ pub struct Log {
     pub count: u64,
 }
 
-// The log stands first, so that it is copied in the same pieces of sixteen bytes in which a caller copies the whole: what
-// was just written is slow to read in pieces that straddle.
+// The log stands first, since a session is copied quickest so.
 #[repr(C)]
 pub struct Session {
     pub log: Log,
