@@ -4,5 +4,6 @@ pub mod Below
 pub mod TypeLaws
 pub mod AttributeLaws
 pub mod References
+pub mod Shapes
 pub mod SubtypeLaws
 pub mod Cases

@@ -40,8 +40,9 @@ mayName (Reference target) u = subtype u target
 unfoldable pub targetsOf : ℕ → ℕ
 targetsOf t = maskBelow types (mayName (attributeOf t (referenceOf t)))
 
--- what is said of a type without attributes
-no-type-reference : (t : ℕ) → isType t ≡ false → referenceOf t ≡ noReference
+-- what is said of a number that is no type
+
+pub no-type-reference : (t : ℕ) → isType t ≡ false → referenceOf t ≡ noReference
 unfolding referenceOf
 no-type-reference t i = rw (no-type-attribute t 0 i, no-type-attribute t 1 i, no-type-attribute t 2 i)
 
@@ -57,7 +58,7 @@ only-one t i = of-type (λ t. allBelow 3 (λ k. not (isReference (attributeOf t 
 reference-there : (t k : ℕ) → isReference (attributeOf t k) ≡ true → attributeOf t k ≡ Lacking → ⊥
 reference-there t k e z = false≢true (sym (ap isReference z) ∙ e)
 
--- No type has two
+-- no type has two references
 pub reference-only : (t k : ℕ) → isReference (attributeOf t k) ≡ true → k ≡ referenceOf t
 reference-only t k e =
     ⊎-elim (λ i. eqb-true k (referenceOf t) (told (isReference (attributeOf t k)) (eqb k (referenceOf t)) e (below 3 _ (only-one t i) k few)))

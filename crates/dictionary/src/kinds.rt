@@ -1,5 +1,7 @@
 // The attributes of a type: how many, and of which kind each is.
 use super::answers::Attribute;
+use super::shapes::attributes_in;
+use super::shapes::shape;
 use super::types::is_type;
 ghost use mathlib.Core.Path.{_≡_};
 ghost use lib.ListN.{length};
@@ -22,19 +24,7 @@ pub fn own_attributes(t: u32) -> u32
 pub fn attributes(t: u32) -> u32
     ensures { λ r. ⌜ r ≡ length (attributesOf t) ⌝ }
 {
-    match t {
-        0 => 1,
-        1 => 2,
-        2 => 3,
-        3 => 3,
-        4 => 2,
-        5 => 1,
-        6 => 3,
-        7 => 2,
-        8 => 1,
-        9 => 2,
-        _ => 0,
-    }
+    attributes_in(shape(t))
 }
 
 // "Inherited attributes come first", so a type's attribute stands in the same place in all of its subtypes.

@@ -3,7 +3,7 @@
 pub mod answers;
 pub mod kinds;
 pub mod parents;
-pub mod references;
+pub mod shapes;
 pub mod types;
 
 pub use answers::Attribute;
@@ -14,8 +14,11 @@ pub use kinds::attributes;
 pub use kinds::own_attributes;
 pub use parents::parent;
 pub use parents::subtype;
-pub use references::reference;
-pub use references::targets;
+pub use shapes::attributes_in;
+pub use shapes::reference;
+pub use shapes::reference_in;
+pub use shapes::shape;
+pub use shapes::targets_in;
 pub use types::is_type;
 pub use types::name;
 pub use types::schema;

@@ -46,8 +46,11 @@ use Rattle.dictionary.proofs.kinds.attributes.Reads as dictionary-kinds-attribu
 use Rattle.dictionary.proofs.kinds.attribute.Reads as dictionary-kinds-attribute
 use Rattle.dictionary.proofs.parents.parent.Reads as dictionary-parents-parent
 use Rattle.dictionary.proofs.parents.subtype.Reads as dictionary-parents-subtype
-use Rattle.dictionary.proofs.references.reference.Reads as dictionary-references-reference
-use Rattle.dictionary.proofs.references.targets.Reads as dictionary-references-targets
+use Rattle.dictionary.proofs.shapes.shape.Reads as dictionary-shapes-shape
+use Rattle.dictionary.proofs.shapes.attributes_in.Reads as dictionary-shapes-attributes-in
+use Rattle.dictionary.proofs.shapes.reference_in.Reads as dictionary-shapes-reference-in
+use Rattle.dictionary.proofs.shapes.targets_in.Reads as dictionary-shapes-targets-in
+use Rattle.dictionary.proofs.shapes.reference.Reads as dictionary-shapes-reference
 use Rattle.tables.proofs.changes.make.Reads as tables-changes-make
 use Rattle.tables.proofs.changes.dissolve.Reads as tables-changes-dissolve
 use Rattle.tables.proofs.changes.join.Reads as tables-changes-join
@@ -279,11 +282,20 @@ dictionary-parents-parent-one κs a x y s s′ p q = p ∙ sym q
 pub dictionary-parents-subtype-one : (κs : _) (a : _) (x y : _) (s s′ : _) → dictionary-parents-subtype.Post κs a x s → dictionary-parents-subtype.Post κs a y s′ → x ≡ y
 dictionary-parents-subtype-one κs a x y s s′ p q = p ∙ sym q
 
-pub dictionary-references-reference-one : (κs : _) (a : _) (x y : _) (s s′ : _) → dictionary-references-reference.Post κs a x s → dictionary-references-reference.Post κs a y s′ → x ≡ y
-dictionary-references-reference-one κs a x y s s′ p q = p ∙ sym q
+pub dictionary-shapes-shape-one : (κs : _) (a : _) (x y : _) (s s′ : _) → dictionary-shapes-shape.Post κs a x s → dictionary-shapes-shape.Post κs a y s′ → x ≡ y
+dictionary-shapes-shape-one κs a x y s s′ p q = p ∙ sym q
 
-pub dictionary-references-targets-one : (κs : _) (a : _) (x y : _) (s s′ : _) → dictionary-references-targets.Post κs a x s → dictionary-references-targets.Post κs a y s′ → x ≡ y
-dictionary-references-targets-one κs a x y s s′ p q = p ∙ sym q
+pub dictionary-shapes-attributes-in-one : (κs : _) (a : _) (x y : _) (s s′ : _) → dictionary-shapes-attributes-in.Post κs a x s → dictionary-shapes-attributes-in.Post κs a y s′ → x ≡ y
+dictionary-shapes-attributes-in-one κs a x y s s′ p q = p ∙ sym q
+
+pub dictionary-shapes-reference-in-one : (κs : _) (a : _) (x y : _) (s s′ : _) → dictionary-shapes-reference-in.Post κs a x s → dictionary-shapes-reference-in.Post κs a y s′ → x ≡ y
+dictionary-shapes-reference-in-one κs a x y s s′ p q = p ∙ sym q
+
+pub dictionary-shapes-targets-in-one : (κs : _) (a : _) (x y : _) (s s′ : _) → dictionary-shapes-targets-in.Post κs a x s → dictionary-shapes-targets-in.Post κs a y s′ → x ≡ y
+dictionary-shapes-targets-in-one κs a x y s s′ p q = p ∙ sym q
+
+pub dictionary-shapes-reference-one : (κs : _) (a : _) (x y : _) (s s′ : _) → dictionary-shapes-reference.Post κs a x s → dictionary-shapes-reference.Post κs a y s′ → x ≡ y
+dictionary-shapes-reference-one κs a x y s s′ p q = p ∙ sym q
 
 -- ---- tables
 

@@ -4,18 +4,16 @@ use Prim.Native.Nat.{ℕ, _+_, _*_, _/_, _^_}
 use mathlib.Core.Bool.{Bool, cond, not, _&&_, _||_}
 use mathlib.Core.List.{List}
 use lib.Dec.{eqb, ltb}
-use lib.ListN.{length, getD}
+use lib.ListN.{getD}
 use Rattle.words.specs.declared.layout.Kind.the-variants.{Instance}
 use Rattle.words.specs.Search.{allB}
 use Rattle.words.specs.Sets.{bitOf, has}
 use Rattle.words.specs.Fields.{values, flagged}
-use Rattle.dictionary.specs.Dictionary.{attributesOf}
-use Rattle.dictionary.specs.References.{referenceOf, targetsOf}
 use Rattle.tables.specs.View.{isLive, typeAt}
 
 -- "flags stand only for attributes that the type has": from the number of its attributes on there is none, nor anything above
 abbrev pub flagsFit : ℕ → ℕ → Bool
-flagsFit type h = eqb (h / 0x1_0000 / 2 ^ length (attributesOf type)) 0
+flagsFit attributes h = eqb (h / 0x1_0000 / 2 ^ attributes) 0
 
 -- a value word below 2^32 if it is set, else 0
 abbrev pub wordFits : Bool → ℕ → Bool
@@ -33,8 +31,9 @@ excessOf v h k = v / 2 ^ (32 * bitOf h (16 + k))
 abbrev pub targetFits : List ℕ → ℕ → ℕ → Bool
 targetFits t right v = isLive t Instance v && has right (typeAt t v)
 
-abbrev pub referenceFits : List ℕ → ℕ → ℕ → ℕ → Bool
-referenceFits t at type h = not (flagged h (referenceOf type)) || targetFits t (targetsOf type) (getD t (at + (1 + referenceOf type)) 0)
+-- attribute k, if it is set
+abbrev pub referenceFits : List ℕ → ℕ → ℕ → ℕ → ℕ → Bool
+referenceFits t at k right h = not (flagged h k) || targetFits t right (getD t (at + (1 + k)) 0)
 
 abbrev pub noValues : List ℕ → ℕ → Bool
 noValues t at = allB values (λ k. eqb (getD t (at + (1 + k)) 0) 0)

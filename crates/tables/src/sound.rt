@@ -21,7 +21,10 @@ use super::values::reference_fits;
 use super::values::words_fit;
 use super::view::label_at;
 use super::view::set_at;
+use dictionary::attributes_in;
 use dictionary::is_type;
+use dictionary::reference_in;
+use dictionary::targets_in;
 use words::copies::agree;
 use words::copies::is_long;
 use words::fields::is_free;
@@ -77,10 +80,11 @@ fn sound_instance(t: &[u64], live: Live, i: u32) -> bool
     if (h % 256 == 0) | !is_type(ty) {
         return false;
     }
-    if !(model_fits(live, ty, h) & flags_fit(ty, h) & words_fit(t, at, h)) {
+    let shape = dictionary::shape(ty);
+    if !(model_fits(live, ty, h) & flags_fit(attributes_in(shape), h) & words_fit(t, at, h)) {
         return false;
     }
-    reference_fits(t, at, ty, h)
+    reference_fits(t, at, reference_in(shape), targets_in(shape), h)
 }
 
 fn sound_instances(t: &[u64], live: Live) -> bool

@@ -7,9 +7,6 @@ ghost use Rattle.words.specs.Layout.{words};
 ghost use Rattle.words.specs.Fields.{values};
 ghost use Rattle.tables.specs.Values.{flagsFit, excessOf, wordsFit, targetFits, referenceFits, noValues};
 use super::live::is_member;
-use dictionary::attributes;
-use dictionary::reference;
-use dictionary::targets;
 use words::fields::FLAGS;
 use words::fields::is_flagged;
 use words::fields::is_free;
@@ -22,10 +19,11 @@ use words::layout::place;
 const VALUE_BITS: u64 = 32;
 
 // "flags stand only for attributes that the type has": those come first. Nothing stands above the flags.
-pub fn flags_fit(ty: u32, h: u64) -> bool
-    ensures { λ r. ⌜ r ≡ flagsFit ty h ⌝ }
+pub fn flags_fit(attributes: u32, h: u64) -> bool
+    requires { ⌜ attributes < 64 ⌝ }
+    ensures { λ r. ⌜ r ≡ flagsFit attributes h ⌝ }
 {
-    (h >> FLAGS) >> attributes(ty) == 0
+    (h >> FLAGS) >> attributes == 0
 }
 
 // What a value word has beyond what flag k leaves it: the bits of a value if it is set, else none.
@@ -60,16 +58,15 @@ fn is_target(t: &[u64], right: u64, v: u64) -> bool
     !is_free(h) & is_member(right, type_in(h))
 }
 
-// The reference of the instance, if its type has one and it is set.
-pub fn reference_fits(t: &[u64], at: usize, ty: u32, h: u64) -> bool
+// The reference of the instance, if its type has one and it is set: attribute k, which may name the types in `right`.
+pub fn reference_fits(t: &[u64], at: usize, k: u32, right: u64, h: u64) -> bool
     requires { ⌜ (at + 4 < length (now t)) × (words ≤ length (now t)) ⌝ }
-    ensures { λ r. ⌜ r ≡ referenceFits (now (t .entry)) at ty h ⌝ }
+    ensures { λ r. ⌜ r ≡ referenceFits (now (t .entry)) at k right h ⌝ }
 {
-    let k = reference(ty);
     if !is_flagged(h, k) {
         return true;
     }
-    is_target(t, targets(ty), t[at + 1 + (k as usize)])
+    is_target(t, right, t[at + 1 + (k as usize)])
 }
 
 // "five words 0 if free": those after the header.

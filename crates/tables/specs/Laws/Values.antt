@@ -98,7 +98,7 @@ none-high x n small few w =
 has-attribute : (type k : ℕ) → Decides (not (lacks (attributeOf type k))) (k < length (attributesOf type))
 has-attribute type k = rw (attribute-lacks type k) (restated (denied _ (at-most (length (attributesOf type)) k)) (λ n. omega arith) (λ l m. omega arith))
 
-flags-parts : (h : ℕ) → Header h → flagsFit (typeIn h) h ≡ allB values (λ k. not (flagged h k) || not (lacks (attributeOf (typeIn h) k)))
+flags-parts : (h : ℕ) → Header h → flagsFit (length (attributesOf (typeIn h))) h ≡ allB values (λ k. not (flagged h k) || not (lacks (attributeOf (typeIn h) k)))
 flags-parts h w =
     let whole : h / 0x1_0000 ≡ flagsIn h = omega arith in
     rw (whole)
@@ -109,14 +109,14 @@ flags-parts h w =
     (every values _ (λ k. flagged h k ≡ true → k < length (attributesOf (typeIn h))) (λ k. implied _ _ (itself (flagged h k)) (has-attribute (typeIn h) k))))
 
 -- a header whose flags fit has nothing above them
-flags-small : (h : ℕ) → flagsFit (typeIn h) h ≡ true → h < 0x10_0000
+flags-small : (h : ℕ) → flagsFit (length (attributesOf (typeIn h))) h ≡ true → h < 0x10_0000
 flags-small h e =
     let low : h / 0x1_0000 < 2 ^ length (attributesOf (typeIn h)) = none-above (h / 0x1_0000) (length (attributesOf (typeIn h))) (eqb-true _ 0 e) in
     let few : h / 0x1_0000 < 2 ^ 3 = lt-of-lt-of-le low (pow-mono (attributes-few (typeIn h))) in
     omega arith
 
 module _ (t : List ℕ) (h : ℕ) (typed : h % 256 ≡ 0 → ⊥) (type : isType (typeIn h) ≡ true) where
-  sound-by-sets : modelFits (liveIn t Model) (typeIn h) h ≡ true → flagsFit (typeIn h) h ≡ true → soundHeader t h ≡ true
+  sound-by-sets : modelFits (liveIn t Model) (typeIn h) h ≡ true → flagsFit (length (attributesOf (typeIn h))) h ≡ true → soundHeader t h ≡ true
   sound-by-sets m f =
       let there = both (isLive t Model (modelIn h)) _ (itself (isLive t Model (modelIn h))) (equal (schemaIn (labelAt t Model (modelIn h))) (schemaOf (typeIn h))) .holds (sym (model-by-sets t h type) ∙ m) in
       sound-header-test t h .passes record {
@@ -126,16 +126,16 @@ module _ (t : List ℕ) (h : ℕ) (typed : h % 256 ≡ 0 → ⊥) (type : isType
         schema = there .1;
       }
 
-  header-parts : (modelFits (liveIn t Model) (typeIn h) h && flagsFit (typeIn h) h) ≡ (soundHeader t h && allB values (λ k. not (flagged h k) || not (lacks (attributeOf (typeIn h) k))))
+  header-parts : (modelFits (liveIn t Model) (typeIn h) h && flagsFit (length (attributesOf (typeIn h))) h) ≡ (soundHeader t h && allB values (λ k. not (flagged h k) || not (lacks (attributeOf (typeIn h) k))))
   header-parts = told (soundHeader t h) refl
     where
-      none : (a b : Bool) → modelFits (liveIn t Model) (typeIn h) h ≡ a → flagsFit (typeIn h) h ≡ b → soundHeader t h ≡ false → (a && b) ≡ false
+      none : (a b : Bool) → modelFits (liveIn t Model) (typeIn h) h ≡ a → flagsFit (length (attributesOf (typeIn h))) h ≡ b → soundHeader t h ≡ false → (a && b) ≡ false
       none true true p q e = sym (sound-by-sets p q) ∙ e
       none true false p q e = refl
       none false b p q e = refl
 
-      told : (s : Bool) → soundHeader t h ≡ s → (modelFits (liveIn t Model) (typeIn h) h && flagsFit (typeIn h) h) ≡ (s && allB values (λ k. not (flagged h k) || not (lacks (attributeOf (typeIn h) k))))
-      told false e = none (modelFits (liveIn t Model) (typeIn h) h) (flagsFit (typeIn h) h) refl refl e
+      told : (s : Bool) → soundHeader t h ≡ s → (modelFits (liveIn t Model) (typeIn h) h && flagsFit (length (attributesOf (typeIn h))) h) ≡ (s && allB values (λ k. not (flagged h k) || not (lacks (attributeOf (typeIn h) k))))
+      told false e = none (modelFits (liveIn t Model) (typeIn h) h) (flagsFit (length (attributesOf (typeIn h))) h) refl refl e
       told true e =
           let w = sound-header-test t h .holds e in
           let fits : modelFits (liveIn t Model) (typeIn h) h ≡ true = model-by-sets t h type ∙ rw (w .model) (eq-eqb _ _ (w .schema)) in
@@ -189,10 +189,10 @@ module _ (t : List ℕ) (at type h : ℕ) where
   target-asked v Whole w e = absurd (false≢true e)
   target-asked v (Reference target) w e = ap (λ (b : Bool). isLive t Instance v && b) (sym (target-has type (typeAt t v) target w))
 
-  reference-parts : allB values asked ≡ referenceFits t at type h
+  reference-parts : allB values asked ≡ referenceFits t at (referenceOf type) (targetsOf type) h
   reference-parts = told (decLt (referenceOf type) values)
     where
-      told : Dec (referenceOf type < values) → allB values asked ≡ referenceFits t at type h
+      told : Dec (referenceOf type < values) → allB values asked ≡ referenceFits t at (referenceOf type) (targetsOf type) h
       told (yes l) = all-one values asked (referenceOf type) l not-asked ∙ ap (λ (b : Bool). not (flagged h (referenceOf type)) || b) (target-asked (getD t (at + (1 + referenceOf type)) 0) (attributeOf type (referenceOf type)) refl (reference-is type l))
       told (no l) = rw (le-ltb (referenceOf type) values (omega arith)) (all-from values asked (λ k m. not-asked k (λ e. omega arith)))
 
@@ -216,12 +216,12 @@ module _ (t : List ℕ) (i : ℕ) (within : i < countOf Instance) where
 
   -- the tests of a live instance in the order of the code: those that are made at once, and then its reference
   abbrev pub at-once : Bool
-  at-once = modelFits (liveIn t Model) (typeIn header-word) header-word && flagsFit (typeIn header-word) header-word && wordsFit t (placeOf Instance i) header-word
+  at-once = modelFits (liveIn t Model) (typeIn header-word) header-word && flagsFit (length (attributesOf (typeIn header-word))) header-word && wordsFit t (placeOf Instance i) header-word
 
   abbrev pub by-parts : Bool
-  by-parts = at-once && referenceFits t (placeOf Instance i) (typeIn header-word) header-word
+  by-parts = at-once && referenceFits t (placeOf Instance i) (referenceOf (typeIn header-word)) (targetsOf (typeIn header-word)) header-word
 
-  values-parts : allB values (λ k. soundValue t (attributeOf (typeIn header-word) k) (flagged header-word k) (valueAt t i k)) ≡ (allB values (λ k. not (flagged header-word k) || not (lacks (attributeOf (typeIn header-word) k))) && (wordsFit t (placeOf Instance i) header-word && referenceFits t (placeOf Instance i) (typeIn header-word) header-word))
+  values-parts : allB values (λ k. soundValue t (attributeOf (typeIn header-word) k) (flagged header-word k) (valueAt t i k)) ≡ (allB values (λ k. not (flagged header-word k) || not (lacks (attributeOf (typeIn header-word) k))) && (wordsFit t (placeOf Instance i) header-word && referenceFits t (placeOf Instance i) (referenceOf (typeIn header-word)) (targetsOf (typeIn header-word)) header-word))
   values-parts =
       rw (← reference-parts t (placeOf Instance i) (typeIn header-word) header-word, all-both values (λ k. wordFits (flagged header-word k) (getD t (placeOf Instance i + (1 + k)) 0)) (asked t (placeOf Instance i) (typeIn header-word) header-word), all-both values)
       (all-same values _ _ (λ k l. rw (value-there k l) (value-parts t (attributeOf (typeIn header-word) k) (flagged header-word k) (getD t (placeOf Instance i + (1 + k)) 0))))

@@ -11,26 +11,17 @@ use borrow.Author.Needs.{needs}
 use Rattle.tables.proofs.values.reference_fits.Statement.{statement}
 use Rattle.tables.proofs.values.reference_fits.Tie as tie
 
-set : (c : tie.Else1) → flagged (c .before .before .before .before .args .h) (c .before .before .reference .result) ≡ true
+set : (c : tie.Else1) → flagged (c .before .before .before .args .h) (c .before .before .before .args .k) ≡ true
 set c = sym (c .before .is-flagged .ensures) ∙ not-false _ (c .if1 .left)
-
-reference-requires : tie.Need-reference-requires
-reference-requires c κs = search needs
 
 is-flagged-requires : tie.Need-is-flagged-requires
 is-flagged-requires c κs = search needs
 
 returns : tie.Need-returns
-returns c = rw (← c .before .before .reference .ensures, sym (c .before .is-flagged .ensures) ∙ not-true _ (c .if1 .taken))
-
-targets-requires : tie.Need-targets-requires
-targets-requires c κs = search needs
+returns c = rw (sym (c .before .is-flagged .ensures) ∙ not-true _ (c .if1 .taken))
 
 add-is-target : tie.Need-add-is-target
 add-is-target c = search needs
-
-cast-is-target : tie.Need-cast-is-target
-cast-is-target c = search needs
 
 add-is-target-2 : tie.Need-add-is-target-2
 add-is-target-2 c = search needs
@@ -39,25 +30,22 @@ mul-is-target : tie.Need-mul-is-target
 mul-is-target c = search needs
 
 shared-slice-read-is-target : tie.Need-shared-slice-read-is-target
-shared-slice-read-is-target c = omega (arith, c .before .before .before .before .before .before .pre .0, ltb-true (c .before .before .before .before .reference .result) values (and-left (ltb (c .before .before .before .before .reference .result) values) _ (set (c .before .before))))
+shared-slice-read-is-target c = omega (arith, c .before .before .before .before .pre .0, ltb-true (c .before .before .before .before .args .k) values (and-left (ltb (c .before .before .before .before .args .k) values) _ (set (c .before))))
 
 is-target-requires : tie.Need-is-target-requires
 is-target-requires c κs = search needs
 
 returns-2 : tie.Need-returns-2
-returns-2 c = let place : c .before .before .before .before .before .before .before .args .at + 1 + c .before .before .before .before .before .reference .result ≡ c .before .before .before .before .before .before .before .args .at + (1 + c .before .before .before .before .before .reference .result) = omega arith in
-    rw (← c .before .before .before .before .before .reference .ensures, set (c .before .before .before), c .is-target .ensures, c .before .before .targets .ensures, place)
+returns-2 c = let place : c .before .before .before .before .before .args .at + 1 + c .before .before .before .before .before .args .k ≡ c .before .before .before .before .before .args .at + (1 + c .before .before .before .before .before .args .k) = omega arith in
+    rw (set (c .before .before), c .is-target .ensures, place)
 
 pub reference-fits-spec : {M : Type 1} → statement M
 reference-fits-spec =
     tie.close
     (tie.spec
-    reference-requires
     is-flagged-requires
     returns
-    targets-requires
     add-is-target
-    cast-is-target
     add-is-target-2
     mul-is-target
     shared-slice-read-is-target
