@@ -20,13 +20,13 @@ pub fn agree(a: &[u64], b: &[u64]) -> bool
     if b.len() < WORDS {
         return false;
     }
-    let mut same = true;
+    let mut differing = 0;
     let mut i = 0;
     while i < WORDS {
-        same = same & (a[i] == b[i]);
+        differing = differing | (a[i] ^ b[i]);
         i += 1;
     }
-    same
+    differing == 0
 }
 
 fn least(a: usize, b: usize) -> usize

@@ -13,12 +13,12 @@ use Rattle.words.specs.Layout.{words, placeOf}
 use Rattle.words.specs.Search.{allB}
 use Rattle.words.specs.Sets.{bits, none, has}
 use Rattle.words.specs.Laws.Bools.{and-left}
-use Rattle.words.specs.Laws.Decides.{equal, at-most, denied, every, restated}
+use Rattle.words.specs.Laws.Decides.{equal, at-most, denied, every, restated, same-test}
 use Rattle.words.specs.Laws.Sets.{has-none, set-member, none-is-empty}
 use Rattle.words.specs.Laws.Entries.{entry-test}
 use Rattle.tables.specs.View.{labelAt}
 use Rattle.tables.specs.Sound.{soundTable, soundTables}
-use Rattle.tables.specs.Laws.Tests.{itself, same-test, all-same, all-both}
+use Rattle.tables.specs.Laws.Tests.{itself, all-same, all-both}
 use Rattle.tables.specs.Laws.Live.{has-and, within-by-and}
 use Rattle.session.specs.declared.state.Event.{Event}
 use Rattle.session.specs.declared.state.State.{State}

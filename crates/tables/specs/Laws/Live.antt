@@ -17,7 +17,7 @@ use Rattle.words.specs.Sets.{bits, bitOf, has, insert, setOf}
 use Rattle.words.specs.Fields.{schemaIn, typeIn, modelIn, isLabel}
 use Rattle.words.specs.Entries.{freeAt}
 use Rattle.words.specs.Laws.Bools.{and-right}
-use Rattle.words.specs.Laws.Decides.{equal, every, restated}
+use Rattle.words.specs.Laws.Decides.{equal, every, restated, same-test}
 use Rattle.words.specs.Laws.Sets.{has-past, set-later, set-member, same-members}
 use Rattle.words.specs.Laws.Fields.{Label, label-test, label-is-live}
 use Rattle.dictionary.specs.Dictionary.{isType, schemaOf}
@@ -26,7 +26,7 @@ use Rattle.tables.specs.declared.live.Live.{Live}
 use Rattle.tables.specs.View.{isLive, labelAt, setAt}
 use Rattle.tables.specs.Sound.{soundGroup}
 use Rattle.tables.specs.Live.{isOf, liveOf, liveBelow, liveIn, withLive, ofSchema, within, modelFits}
-use Rattle.tables.specs.Laws.Tests.{itself, implied, same-test, all-same}
+use Rattle.tables.specs.Laws.Tests.{itself, implied, all-same}
 
 -- ---- a set within another
 

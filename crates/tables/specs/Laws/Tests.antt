@@ -1,4 +1,4 @@
--- More on tests that decide a statement: one that follows from another, and that two tests of one statement are the same.
+-- More on tests that decide a statement: one that follows from another, and tests of every number.
 use mathlib.Core.Path.{_≡_, refl, sym, ap, _∙_}
 use mathlib.Core.Bool.{Bool, true, false, not, _&&_, _||_, false≢true}
 use Prim.Native.Nat.{ℕ, zero, suc, _<_}
@@ -15,11 +15,6 @@ module _ {P Q : Type 0} where
   pub implied : (a b : Bool) → Decides a P → Decides b Q → Decides (not a || b) (P → Q)
   implied true b p q = record { holds = λ h w. q .holds h; passes = λ w. q .passes (w (p .holds refl)) }
   implied false b p q = record { holds = λ h w. absurd (false≢true (p .passes w)); passes = λ w. refl }
-
-pub same-test : {P : Type 0} (a b : Bool) → Decides a P → Decides b P → a ≡ b
-same-test true b p q = sym (q .passes (p .holds refl))
-same-test false true p q = p .passes (q .holds refl)
-same-test false false p q = refl
 
 pub all-same : (n : ℕ) (f g : ℕ → Bool) → ((i : ℕ) → i < n → f i ≡ g i) → allB n f ≡ allB n g
 unfolding allB

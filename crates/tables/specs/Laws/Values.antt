@@ -17,7 +17,7 @@ use Rattle.words.specs.Search.{allB}
 use Rattle.words.specs.Sets.{bitOf, has}
 use Rattle.words.specs.Fields.{schemaIn, typeIn, modelIn, flagsIn, values, flagged}
 use Rattle.words.specs.Laws.Bools.{and-ended, or-right}
-use Rattle.words.specs.Laws.Decides.{Decides, both, less, equal, at-most, denied, every, restated}
+use Rattle.words.specs.Laws.Decides.{Decides, both, less, equal, at-most, denied, every, restated, same-test}
 use Rattle.words.specs.Laws.Search.{all-from}
 use Rattle.words.specs.Laws.Fields.{Header, flag-of-flags}
 use Rattle.words.specs.Laws.Entries.{entry-test}
@@ -31,7 +31,7 @@ use Rattle.tables.specs.View.{isLive, labelAt, headerAt, typeAt, valueAt
 use Rattle.tables.specs.Sound.{soundValue, soundHeader, soundInstance}
 use Rattle.tables.specs.Live.{liveIn, modelFits}
 use Rattle.tables.specs.Values.{flagsFit, wordFits, wordsFit, excessOf, targetFits, referenceFits, noValues}
-use Rattle.tables.specs.Laws.Tests.{itself, implied, same-test, all-same, all-both, all-one}
+use Rattle.tables.specs.Laws.Tests.{itself, implied, all-same, all-both, all-one}
 use Rattle.tables.specs.Laws.Sound.{live-below, SoundHeader, sound-header-test}
 use Rattle.tables.specs.Laws.Live.{model-by-sets}
 use Rattle.tables.specs.Laws.Labels.{first-word}

@@ -1,11 +1,12 @@
 -- Two tables: agreement word by word, what a copy holds, and that the words beyond those in use play no part.
 use mathlib.Core.Path.{_≡_, sym, _∙_}
-use mathlib.Core.Bool.{false}
+use mathlib.Core.Bool.{false, _&&_}
 use mathlib.Core.List.{List, _++_}
 use Prim.Native.Nat.{ℕ, suc, _+_, _≤_, _<_}
 use native.Mathlib.Numerals.{add-one}
 use native.Mathlib.Omega.{arith}
-use lib.Dec.{leb}
+use lib.Bits.{bitOr, bitXor, or-add-and, or-zero-l, xor-add-and, xor-self, and-le-l, and-le-r}
+use lib.Dec.{eqb, leb}
 use borrow.Author.Tests.{lt-leb, le-leb}
 use lib.ListN.{length, getD, set, take, drop, length-append, length-take, length-drop, List·getD-append}
 use lib.Seq.{take-suc, drop-cons, append-snoc, set-at, length-take-le, getD-take, drop-at}
@@ -15,7 +16,7 @@ use Rattle.words.specs.Entries.{wordOf}
 use Rattle.words.specs.Search.{allB}
 use Rattle.words.specs.Copies.{sameAt, agree, inBoth, copied}
 use Rattle.words.specs.Laws.Bools.{and-ended}
-use Rattle.words.specs.Laws.Decides.{Decides, both, equal, at-most, every, restated}
+use Rattle.words.specs.Laws.Decides.{Decides, same-test, both, equal, at-most, every, restated}
 use Rattle.words.specs.Laws.Entries.{word-alike}
 
 -- one word more is copied
@@ -23,6 +24,15 @@ pub copy-more : (from to : List ℕ) (i : ℕ) → i < length from → i < lengt
 copy-more from to i hf ht =
     rw (add-one, drop-cons to i 0 ht, take-suc from i 0 hf, append-snoc)
     (set-at (take i from) (getD to i 0) (drop (suc i) to) (getD from i 0) i (length-take-le i from (omega arith)))
+
+-- what two words differ in, gathered with what words before them differ in
+pub no-difference : (d x y : ℕ) → eqb (bitOr d (bitXor x y)) 0 ≡ (eqb d 0 && eqb x y)
+no-difference d x y =
+    same-test _ _
+    (restated (equal (bitOr d (bitXor x y)) 0)
+    (λ e. (omega (arith, or-add-and d (bitXor x y), and-le-r d (bitXor x y)), omega (arith, or-add-and d (bitXor x y), and-le-l d (bitXor x y), xor-add-and x y, and-le-l x y, and-le-r x y)))
+    (λ w. rw (w .0, w .1, xor-self y, or-zero-l 0)))
+    (both _ _ (equal d 0) (equal x y))
 
 -- the tests of `agree`
 module _ (a b : List ℕ) where

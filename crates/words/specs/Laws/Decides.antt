@@ -1,5 +1,5 @@
 -- A test that is passed exactly where a statement holds, and such tests put together: how a definition that computes is read as a statement.
-use mathlib.Core.Path.{_≡_, refl}
+use mathlib.Core.Path.{_≡_, refl, sym}
 use mathlib.Core.Bool.{Bool, true, false, not, _&&_, _||_, false≢true}
 use mathlib.Core.Logic.{_⊎_, inl, inr}
 use Prim.Native.Nat.{ℕ, _≤_, _<_}
@@ -11,6 +11,12 @@ use Rattle.words.specs.Laws.Search.{all-at, all-from}
 pub record Decides (b : Bool) (P : Type 0) : Type 0 where
   pub holds : b ≡ true → P
   pub passes : P → b ≡ true
+
+-- two tests of one statement are the same
+pub same-test : {P : Type 0} (a b : Bool) → Decides a P → Decides b P → a ≡ b
+same-test true b p q = sym (q .passes (p .holds refl))
+same-test false true p q = p .passes (q .holds refl)
+same-test false false p q = refl
 
 pub less : (x y : ℕ) → Decides (ltb x y) (x < y)
 less x y = record { holds = ltb-true x y; passes = lt-ltb x y }

@@ -1,20 +1,22 @@
--- `same` says whether all words passed agree. The measure is the words left.
+-- `differing` is 0 exactly if all words passed agree. The measure is the words left.
 use mathlib.Core.Path.{_≡_, refl, sym}
 use Prim.Native.Nat.{_-_, _≤_}
+use lib.Dec.{eqb}
+use lib.ListN.{getD}
 use native.Mathlib.Omega.{arith}
 use native.Mathlib.Numerals.{add-one}
 use Rattle.words.specs.Layout.{words}
 use Rattle.words.specs.Search.{allB}
 use Rattle.words.specs.Copies.{sameAt}
-use Rattle.words.specs.Laws.Copies.{short-left, short-right, both-long}
+use Rattle.words.specs.Laws.Copies.{no-difference, short-left, short-right, both-long}
 use Rattle.words.proofs.copies.agree.Statement.{statement}
 use Rattle.words.proofs.copies.agree.Tie as tie
 
 abbrev Inv-loop : tie.InvT-loop
-Inv-loop a b same₀ i₀ same i = (i ≤ words) × (same ≡ allB i (sameAt a b))
+Inv-loop a b differing₀ i₀ differing i = (i ≤ words) × (eqb differing 0 ≡ allB i (sameAt a b))
 
 abbrev μ-loop : tie.MeasureT-loop
-μ-loop a b same₀ i₀ same i = words - i
+μ-loop a b differing₀ i₀ differing i = words - i
 
 returns : tie.Need-returns Inv-loop μ-loop
 returns c = sym (short-left (c .before .args .a .now) (c .before .args .b .now) (c .if1 .taken))
@@ -26,17 +28,17 @@ loop-holds : tie.Need-loop-holds Inv-loop μ-loop
 unfolding allB
 loop-holds c = (omega arith, refl)
 
-mul-same : tie.Need-mul-same Inv-loop μ-loop
-mul-same c = omega arith
+mul-differing : tie.Need-mul-differing Inv-loop μ-loop
+mul-differing c = omega arith
 
-shared-slice-read-same : tie.Need-shared-slice-read-same Inv-loop μ-loop
-shared-slice-read-same c = omega arith
+shared-slice-read-differing : tie.Need-shared-slice-read-differing Inv-loop μ-loop
+shared-slice-read-differing c = omega arith
 
-mul-same-2 : tie.Need-mul-same-2 Inv-loop μ-loop
-mul-same-2 c = omega arith
+mul-differing-2 : tie.Need-mul-differing-2 Inv-loop μ-loop
+mul-differing-2 c = omega arith
 
-shared-slice-read-same-2 : tie.Need-shared-slice-read-same-2 Inv-loop μ-loop
-shared-slice-read-same-2 c = omega arith
+shared-slice-read-differing-2 : tie.Need-shared-slice-read-differing-2 Inv-loop μ-loop
+shared-slice-read-differing-2 c = omega arith
 
 add-i : tie.Need-add-i Inv-loop μ-loop
 add-i c = omega arith
@@ -46,7 +48,7 @@ loop-less c = omega arith
 
 loop-again : tie.Need-loop-again Inv-loop μ-loop
 unfolding allB
-loop-again c = (omega arith, rw (add-one, c .before .before .before .loop .inv .1))
+loop-again c = (omega arith, rw (add-one, no-difference (c .before .before .before .loop .differing) (getD (c .before .before .before .before .before .before .args .a .now) (c .before .before .before .loop .i) 0) (getD (c .before .before .before .before .before .before .args .b .now) (c .before .before .before .loop .i) 0), c .before .before .before .loop .inv .1))
 
 returns-3 : tie.Need-returns-3 Inv-loop μ-loop
 returns-3 c = let e : c .before .loop .i ≡ words = omega arith in rw (c .before .loop .inv .1, e) (sym (both-long (c .before .before .before .before .args .a .now) (c .before .before .before .before .args .b .now) (c .before .before .before .if1 .left) (c .before .before .if2 .left)))
@@ -60,10 +62,10 @@ agree-spec =
     returns
     returns-2
     loop-holds
-    mul-same
-    shared-slice-read-same
-    mul-same-2
-    shared-slice-read-same-2
+    mul-differing
+    shared-slice-read-differing
+    mul-differing-2
+    shared-slice-read-differing-2
     add-i
     loop-less
     loop-again
