@@ -1,9 +1,5 @@
 pub mod Dictionary
 pub mod Subtype
-pub mod Below
-pub mod TypeLaws
-pub mod AttributeLaws
-pub mod References
-pub mod Shapes
-pub mod SubtypeLaws
+pub mod Quick
+pub mod Laws
 pub mod Cases

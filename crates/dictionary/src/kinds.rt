@@ -5,20 +5,7 @@ use super::shapes::shape;
 use super::types::is_type;
 ghost use mathlib.Core.Path.{_≡_};
 ghost use lib.ListN.{length};
-ghost use Rattle.dictionary.specs.Dictionary.{ownOf, attributesOf, attributeOf};
-
-// How many attributes a type has of its own.
-pub fn own_attributes(t: u32) -> u32
-    ensures { λ r. ⌜ r ≡ length (ownOf t) ⌝ }
-{
-    if !is_type(t) {
-        return 0;
-    }
-    match t {
-        6 => 2,
-        _ => 1,
-    }
-}
+ghost use Rattle.dictionary.specs.Dictionary.{attributesOf, attributeOf};
 
 // How many attributes a type has, with the inherited ones.
 pub fn attributes(t: u32) -> u32

@@ -11,7 +11,6 @@ pub use answers::Name;
 pub use answers::Parent;
 pub use kinds::attribute;
 pub use kinds::attributes;
-pub use kinds::own_attributes;
 pub use parents::parent;
 pub use parents::subtype;
 pub use shapes::attributes_in;

@@ -1,8 +1,8 @@
 // The shape of a type in one word, so that the test of an instance asks the dictionary once: how many attributes it has,
 // which of them is its reference, and the types that this may name.
 ghost use mathlib.Core.Path.{_≡_};
-ghost use Rattle.dictionary.specs.References.{referenceOf};
-ghost use Rattle.dictionary.specs.Shapes.{packedOf, shapeOf, attributesIn, referenceIn, targetsIn};
+ghost use Rattle.dictionary.specs.Quick.References.{referenceOf};
+ghost use Rattle.dictionary.specs.Quick.Shapes.{packedOf, shapeOf, attributesIn, referenceIn, targetsIn};
 
 // The answer for a type without a reference: a number that no attribute has.
 pub const NO_REFERENCE: u32 = 4;

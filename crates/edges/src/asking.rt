@@ -5,12 +5,13 @@ use session::events::blank_log;
 use session::refusals;
 use session::state::Session;
 use session::state::closed_state;
+use words::layout::WORDS;
 
 // All that a reader holds between two calls.
 pub struct Chip {
     pub session: Session,
-    pub working: [u64; 736],
-    pub kept: [u64; 736],
+    pub working: [u64; WORDS],
+    pub kept: [u64; WORDS],
 }
 
 pub fn fresh() -> Chip {
@@ -19,8 +20,8 @@ pub fn fresh() -> Chip {
             state: closed_state(),
             log: blank_log(),
         },
-        working: [0; 736],
-        kept: [0; 736],
+        working: [0; WORDS],
+        kept: [0; WORDS],
     }
 }
 

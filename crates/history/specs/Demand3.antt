@@ -1,22 +1,24 @@
 -- Demand 3: "For any list of operations from fresh".
-use Prim.Native.Nat.{ℕ}
+use Prim.Native.Nat.{ℕ, _-_}
 use mathlib.Core.Path.{_≡_}
 use mathlib.Core.Bool.{true}
 use mathlib.Core.Logic.{_↔_}
 use mathlib.Core.List.{List}
 use Rattle.words.specs.declared.layout.Kind.{Kind}
 use Rattle.words.specs.declared.layout.Kind.the-variants.{Model, SchemaInstance, Instance}
+use Rattle.words.specs.Layout.{countOf}
 use Rattle.words.specs.Sets.{has}
 use Rattle.words.specs.Fields.{headerOf}
 use Rattle.tables.specs.View.{isLive, labelAt, setAt, typeAt, modelAt, isSet, valueAt}
 use Rattle.tables.specs.declared.changes.Change.{Change}
 use Rattle.session.specs.declared.operations.Operation.{Operation}
 use Rattle.session.specs.declared.operations.Operation.the-variants as operation
+use Rattle.session.specs.declared.operations.Writer.the-variants as writer
 use Rattle.session.specs.Refusals.{done}
 use Rattle.session.specs.Operations.{operationOf}
-use Rattle.session.specs.Checks.{refusalOf}
+use Rattle.session.specs.Rows.{refusalOf}
 use Rattle.session.specs.Step.{Outcome}
-use Rattle.history.specs.Runs.{Call, Chip, outcomeOf}
+use Rattle.session.specs.Runs.{Call, Chip, outcomeOf}
 use Rattle.history.specs.Live.{Live, Member, SetTo}
 
 -- a table holds what these changes make live, set and a member, and nothing else
@@ -29,14 +31,14 @@ pub record Tells (t : List ℕ) (r : List Change) : Type 0 where
 
 -- the creation and the deletion of each kind
 abbrev pub creationOf : Kind → Operation
-creationOf Model = operation.CreateModel
-creationOf SchemaInstance = operation.CreateSchemaInstance
-creationOf Instance = operation.CreateInstance
+creationOf Model = operation.Writer writer.CreateModel
+creationOf SchemaInstance = operation.Writer writer.CreateSchemaInstance
+creationOf Instance = operation.Writer writer.CreateInstance
 
 abbrev pub deletionOf : Kind → Operation
-deletionOf Model = operation.DeleteModel
-deletionOf SchemaInstance = operation.DeleteSchemaInstance
-deletionOf Instance = operation.DeleteInstance
+deletionOf Model = operation.Writer writer.DeleteModel
+deletionOf SchemaInstance = operation.Writer writer.DeleteSchemaInstance
+deletionOf Instance = operation.Writer writer.DeleteInstance
 
 -- a creation that "passes its other checks": all but NO_ROOM
 pub record Creates (kind : Kind) (chip : Chip) (q : Call) : Type 0 where
@@ -56,6 +58,4 @@ pub record Deletes (kind : Kind) (n : ℕ) (chip : Chip) (q : Call) : Type 0 whe
 
 -- the last place of each table
 abbrev pub lastOf : Kind → ℕ
-lastOf Model = 63
-lastOf SchemaInstance = 15
-lastOf Instance = 127
+lastOf kind = countOf kind - 1

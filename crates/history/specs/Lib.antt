@@ -1,4 +1,3 @@
-pub mod Runs
 pub mod Remains
 pub mod Live
 pub mod Demand3

@@ -6,11 +6,11 @@ use mathlib.Core.List.{List, _∷_}
 use lib.Dec.{eqb}
 use Rattle.words.specs.declared.layout.Kind.{Kind}
 use Rattle.words.specs.declared.layout.Kind.the-variants.{Model, SchemaInstance, Instance}
-use Rattle.words.specs.Layout.{countOf}
+use Rattle.words.specs.Layout.{countOf, indexOf}
 use Rattle.words.specs.Fields.{typeIn, modelIn}
 use Rattle.dictionary.specs.Dictionary.{isReference, attributeOf}
 use Rattle.tables.specs.declared.changes.Change.{Change}
-use Rattle.tables.specs.declared.changes.Change.the-variants.{Made, Dissolved, Joined, Left, Put, Unset, Deleted, Removed}
+use Rattle.tables.specs.declared.changes.Change.the-variants.{Made, Gone, Joined, Left, Put, Unset}
 
 -- some change is as P says, given those before it, and no later one is as Q says
 pub data Since (P : Change → List Change → Type 0) (Q : Change → Bool) : List Change → Type 0 where
@@ -19,38 +19,29 @@ pub data Since (P : Change → List Change → Type 0) (Q : Change → Bool) : L
 
 -- ---- entries
 
--- what a change deletes
-pub data Deletion : Type 0 where
-  nothing : Deletion
-  ofModel ofGroup ofInstance : ℕ → Deletion
+-- entry m of one kind is entry n of the other
+abbrev pub sameEntry : Kind → ℕ → Kind → ℕ → Bool
+sameEntry kind m other n = eqb (indexOf kind) (indexOf other) && eqb m n
 
-abbrev pub deletion : Change → Deletion
-deletion (Made kind n first) = nothing
-deletion (Dissolved s) = ofGroup s
-deletion (Joined s m) = nothing
-deletion (Left s m) = nothing
-deletion (Put i k v) = nothing
-deletion (Unset i k) = nothing
-deletion (Deleted i) = ofInstance i
-deletion (Removed m) = ofModel m
+-- the deletion of entry m of a kind "names it or its model": entry n of the other, that was made with this first word; an
+-- instance's model is the one that its creation named
+abbrev pub deletes : Kind → ℕ → Kind → ℕ → ℕ → Bool
+deletes kind m Model n first = sameEntry kind m Model n
+deletes kind m SchemaInstance n first = sameEntry kind m SchemaInstance n
+deletes kind m Instance n first = sameEntry kind m Instance n || sameEntry kind m Model (modelIn first)
 
--- it "names it or its model": entry n that was made with this first word; its model is the one that the creation named
-abbrev pub names : Deletion → Kind → ℕ → ℕ → Bool
-names nothing kind n first = false
-names (ofModel m) Model n first = eqb m n
-names (ofModel m) SchemaInstance n first = false
-names (ofModel m) Instance n first = eqb m (modelIn first)
-names (ofGroup s) Model n first = false
-names (ofGroup s) SchemaInstance n first = eqb s n
-names (ofGroup s) Instance n first = false
-names (ofInstance i) Model n first = false
-names (ofInstance i) SchemaInstance n first = false
-names (ofInstance i) Instance n first = eqb i n
+abbrev pub names : Change → Kind → ℕ → ℕ → Bool
+names (Made kind m label) other n first = false
+names (Gone kind m) other n first = deletes kind m other n first
+names (Joined s m) other n first = false
+names (Left s m) other n first = false
+names (Put i k v) other n first = false
+names (Unset i k) other n first = false
 
 -- "an entry is live exactly if a remaining creation of its kind gave that number and no later remaining deletion names it
 -- or its model": entry n, which that creation made with this first word
 unfoldable pub Live : Kind → ℕ → ℕ → List Change → Type 0
-Live kind n first r = Since (λ c earlier. c ≡ Made kind n first) (λ c. names (deletion c) kind n first) r
+Live kind n first r = Since (λ c earlier. c ≡ Made kind n first) (λ c. names c kind n first) r
 
 -- "the live entries so counted fill its table"
 unfoldable pub Full : Kind → List Change → Type 0
@@ -58,27 +49,14 @@ Full kind r = (n : ℕ) → n < countOf kind → (first : ℕ) × Live kind n fi
 
 -- ---- sets
 
--- a creation, of schema instance s; of instance i
-abbrev pub makesGroup : Kind → ℕ → ℕ → Bool
-makesGroup Model n s = false
-makesGroup SchemaInstance n s = eqb n s
-makesGroup Instance n s = false
-
-abbrev pub makesInstance : Kind → ℕ → ℕ → Bool
-makesInstance Model n i = false
-makesInstance SchemaInstance n i = false
-makesInstance Instance n i = eqb n i
-
 -- a 33 of model m there, a deletion of it, or the schema instance's own end or beginning
 abbrev pub parts : ℕ → ℕ → Change → Bool
-parts s m (Made kind n first) = makesGroup kind n s
-parts s m (Dissolved n) = eqb n s
+parts s m (Made kind n first) = sameEntry kind n SchemaInstance s
+parts s m (Gone kind n) = sameEntry kind n SchemaInstance s || sameEntry kind n Model m
 parts s m (Joined n l) = false
 parts s m (Left n l) = eqb n s && eqb l m
 parts s m (Put i k v) = false
 parts s m (Unset i k) = false
-parts s m (Deleted i) = false
-parts s m (Removed l) = eqb l m
 
 -- "its last remaining 32 there, since the schema instance's creation, came after every remaining 33 of it there and
 -- deletion of it"
@@ -94,14 +72,12 @@ refersBy header k = isReference (attributeOf (typeIn header) k)
 -- a later put or an unset of attribute k of instance i, the instance's own end or beginning, and for R a deletion of the
 -- instance v that the value names, or of that one's model at the put; the headers are those of i and of v at the put
 abbrev pub undoes : ℕ → ℕ → ℕ → ℕ → ℕ → Change → Bool
-undoes i k v header target (Made kind n first) = makesInstance kind n i
-undoes i k v header target (Dissolved s) = false
+undoes i k v header target (Made kind n first) = sameEntry kind n Instance i
+undoes i k v header target (Gone kind n) = deletes kind n Instance i header || (refersBy header k && deletes kind n Instance v target)
 undoes i k v header target (Joined s m) = false
 undoes i k v header target (Left s m) = false
 undoes i k v header target (Put j l u) = eqb j i && eqb l k
 undoes i k v header target (Unset j l) = eqb j i && eqb l k
-undoes i k v header target (Deleted j) = eqb j i || (refersBy header k && eqb j v)
-undoes i k v header target (Removed m) = eqb m (modelIn header) || (refersBy header k && eqb m (modelIn target))
 
 -- the put: instance i was live with this header, and for R instance v with that one
 pub record Puts (i k v header target : ℕ) (c : Change) (earlier : List Change) : Type 0 where

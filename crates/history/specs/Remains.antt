@@ -6,12 +6,16 @@ use lib.Dec.{eqb}
 use Rattle.words.specs.declared.layout.Kind.the-variants.{Model, SchemaInstance, Instance}
 use Rattle.words.specs.Fields.{labelOf, headerOf}
 use Rattle.tables.specs.declared.changes.Change.{Change}
-use Rattle.tables.specs.declared.changes.Change.the-variants.{Made, Dissolved, Joined, Left, Put, Unset, Deleted, Removed}
+use Rattle.tables.specs.declared.changes.Change.the-variants.{Made, Gone, Joined, Left, Put, Unset}
 use Rattle.session.specs.declared.operations.Operation.{Operation}
 use Rattle.session.specs.declared.operations.Operation.the-variants as operation
+use Rattle.session.specs.declared.operations.InSession.{InSession}
+use Rattle.session.specs.declared.operations.InSession.the-variants as inSession
+use Rattle.session.specs.declared.operations.Writer.{Writer}
+use Rattle.session.specs.declared.operations.Writer.the-variants as writer
 use Rattle.session.specs.Refusals.{done}
 use Rattle.session.specs.Operations.{operationOf}
-use Rattle.history.specs.Runs.{Answered}
+use Rattle.session.specs.Runs.{Answered}
 
 -- what a done call says to the tables: nothing, a change, "7 or 9", "2, 8, 10 or 13"
 pub data Said : Type 0 where
@@ -21,37 +25,40 @@ pub data Said : Type 0 where
   drops : Said
 
 -- by the operation, its arguments and the value that it gave
+abbrev pub sessionSays : InSession → Said
+sessionSays inSession.CloseSession = drops
+sessionSays inSession.OpenRepository = silent
+sessionSays inSession.CloseRepository = silent
+sessionSays inSession.StartReadWrite = silent
+sessionSays inSession.StartReadOnly = silent
+sessionSays inSession.Commit = commits
+sessionSays inSession.Abort = drops
+sessionSays inSession.EndCommit = commits
+sessionSays inSession.EndAbort = drops
+sessionSays inSession.StartRecording = silent
+sessionSays inSession.StopRecording = silent
+sessionSays inSession.StorageFault = drops
+sessionSays inSession.IsSubtype = silent
+
+abbrev pub writerSays : Writer → ℕ → ℕ → ℕ → ℕ → Said
+writerSays writer.CreateModel a b c value = changes (Made Model value (labelOf a b c))
+writerSays writer.DeleteModel a b c value = changes (Gone Model a)
+writerSays writer.ReadWriteAccess a b c value = silent
+writerSays writer.CreateSchemaInstance a b c value = changes (Made SchemaInstance value (labelOf a b c))
+writerSays writer.DeleteSchemaInstance a b c value = changes (Gone SchemaInstance a)
+writerSays writer.AddModel a b c value = changes (Joined a b)
+writerSays writer.RemoveModel a b c value = changes (Left a b)
+writerSays writer.CreateInstance a b c value = changes (Made Instance value (headerOf b a 0))
+writerSays writer.DeleteInstance a b c value = changes (Gone Instance a)
+writerSays writer.Put a b c value = changes (Put a b c)
+writerSays writer.Unset a b c value = changes (Unset a b)
+
 abbrev pub saying : Operation → ℕ → ℕ → ℕ → ℕ → Said
-saying operation.OpenSession a b c value = silent
-saying operation.CloseSession a b c value = drops
-saying operation.OpenRepository a b c value = silent
-saying operation.CloseRepository a b c value = silent
-saying operation.StartReadWrite a b c value = silent
-saying operation.StartReadOnly a b c value = silent
-saying operation.Commit a b c value = commits
-saying operation.Abort a b c value = drops
-saying operation.EndCommit a b c value = commits
-saying operation.EndAbort a b c value = drops
-saying operation.StartRecording a b c value = silent
-saying operation.StopRecording a b c value = silent
-saying operation.StorageFault a b c value = drops
-saying operation.CreateModel a b c value = changes (Made Model value (labelOf a b c))
-saying operation.DeleteModel a b c value = changes (Removed a)
-saying operation.ReadOnlyAccess a b c value = silent
-saying operation.ReadWriteAccess a b c value = silent
-saying operation.EndAccess a b c value = silent
-saying operation.CreateSchemaInstance a b c value = changes (Made SchemaInstance value (labelOf a b c))
-saying operation.DeleteSchemaInstance a b c value = changes (Dissolved a)
-saying operation.AddModel a b c value = changes (Joined a b)
-saying operation.RemoveModel a b c value = changes (Left a b)
-saying operation.CreateInstance a b c value = changes (Made Instance value (headerOf b a 0))
-saying operation.DeleteInstance a b c value = changes (Deleted a)
-saying operation.Get a b c value = silent
-saying operation.Test a b c value = silent
-saying operation.Put a b c value = changes (Put a b c)
-saying operation.Unset a b c value = changes (Unset a b)
-saying operation.IsSubtype a b c value = silent
 saying operation.Unlisted a b c value = silent
+saying operation.Opening a b c value = silent
+saying (operation.InSession o) a b c value = sessionSays o
+saying (operation.Reader o) a b c value = silent
+saying (operation.Writer o) a b c value = writerSays o a b c value
 
 -- "refused operations are struck out"
 abbrev pub said : Answered → Said

@@ -8,7 +8,7 @@ use Rattle.words.specs.declared.layout.Kind.{Kind}
 use Rattle.words.specs.Layout.{countOf}
 use Rattle.tables.specs.View.{isLive}
 use Rattle.session.specs.Refusals.{NO-ROOM}
-use Rattle.history.specs.Runs.{Call, Chip, Fresh, outcomeOf, after, history}
+use Rattle.session.specs.Runs.{Call, Chip, Fresh, outcomeOf, after, history}
 use Rattle.history.specs.Remains.{dropped, remainingIf, remaining}
 use Rattle.history.specs.Live.{Full}
 use Rattle.history.specs.Demand3.{Tells, Creates, Takes, Deletes, lastOf}

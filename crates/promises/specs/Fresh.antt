@@ -1,38 +1,30 @@
--- "Fresh: all words 0, session closed": a fresh chip is sound.
+-- A fresh chip is sound.
 use mathlib.Core.Path.{_≡_, refl, sym, ap, _∙_}
 use mathlib.Core.Bool.{Bool, true, false, cond}
 use mathlib.Core.List.{List}
-use Prim.Native.Nat.{ℕ, _≤_, _<_, _+_}
+use Prim.Native.Nat.{ℕ, _+_}
+use native.Mathlib.Nat.{le-refl}
 use lib.Dec.{eqb}
-use lib.ListN.{length, getD}
+use lib.ListN.{getD, getD-replicate}
+use Rattle.logic.specs.Laws.Bools.{clash}
 use Rattle.words.specs.declared.layout.Kind.{Kind}
 use Rattle.words.specs.declared.layout.Kind.the-variants.{Model, SchemaInstance, Instance}
 use Rattle.words.specs.Layout.{words, placeOf}
 use Rattle.words.specs.Entries.{wordOf, inEntry, freeAt, formed}
 use Rattle.words.specs.Laws.Entries.{entry-in-use}
-use Rattle.session.specs.declared.state.Session.{Session}
-use Rattle.session.specs.States.{closedState, blankLog, session}
 use Rattle.session.specs.Sound.{sound}
-use Rattle.promises.specs.Keeps.Tests.{clash}
+use Rattle.session.specs.Runs.{freshSession, Empty, Fresh, freshTable, freshChip}
 use Rattle.promises.specs.Keeps.Facts.{Distinct, SoundTable}
 use Rattle.promises.specs.Keeps.SessionFacts.{sound-test}
 use Rattle.promises.specs.Keeps.Afterwards.{closed-sound}
 
-abbrev pub freshSession : Session
-freshSession = session closedState blankLog
-
--- words in use that are all 0
-pub record Empty (t : List ℕ) : Type 0 where
-  pub long : words ≤ length t
-  pub zeros : (i : ℕ) → i < words → getD t i 0 ≡ 0
-
 module _ (t : List ℕ) (h : Empty t) where
-  no-word : (kind : Kind) (i k : ℕ) → wordOf t kind i k ≡ 0
-  no-word kind i k = told (inEntry kind i k) refl
+  pub no-word : (kind : Kind) (i k : ℕ) → wordOf t kind i k ≡ 0
+  no-word kind i k = by-cases (inEntry kind i k) refl
     where
-      told : (b : Bool) → inEntry kind i k ≡ b → cond b (getD t (placeOf kind i + k) 0) 0 ≡ 0
-      told true e = h .zeros (placeOf kind i + k) (entry-in-use kind i k e)
-      told false e = refl
+      by-cases : (b : Bool) → inEntry kind i k ≡ b → cond b (getD t (placeOf kind i + k) 0) 0 ≡ 0
+      by-cases true e = h .zeros (placeOf kind i + k) (entry-in-use kind i k e)
+      by-cases false e = refl
 
   all-free : (kind : Kind) (i : ℕ) → freeAt t kind i ≡ true
   all-free kind i = ap (λ (w : ℕ). eqb w 0) (no-word kind i 0)
@@ -61,3 +53,10 @@ fresh-sound w k hw hk =
       };
       session = closed-sound w;
     })
+
+fresh-table : Empty freshTable
+unfolding freshTable
+fresh-table = record { long = le-refl words; zeros = λ i l. getD-replicate words i 0 0 l }
+
+pub fresh-chip : Fresh freshChip
+fresh-chip = record { session = refl; working = fresh-table; kept = fresh-table }

@@ -1,6 +1,6 @@
 -- What the theorems rest on: soundness as statements, the ways that a call goes, and that each change of a table keeps it sound.
-pub mod Tests
 pub mod Range
+pub mod Passed
 pub mod Ways
 pub mod Facts
 pub mod SessionFacts

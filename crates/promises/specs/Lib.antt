@@ -6,5 +6,4 @@ pub mod Core
 pub mod Keeps
 pub mod Records
 pub mod Wrong
-pub mod Unique
 pub mod Cases

@@ -23,12 +23,12 @@ pub record LeftAlone (op : ℕ) (x : Session) (w k : List ℕ) (o : Outcome) : T
 not-unsound : (r : ℕ) → Refusing r → eqb r SY-ERR ≡ false
 not-unsound r h = ne-eqb r SY-ERR (λ e. omega arith)
 
-went : (op a b c : ℕ) (x : Session) (w k : List ℕ) (o : Outcome) → Way op a b c x w k o → (o .answer .refusal ≡ done → ⊥) → LeftAlone op x w k o
-went op a b c x w k o (unsound h) n = record { value = refl; working = refl; kept = refl; session = refl }
-went op a b c x w k o (refusing r h e) n = record { value = refl; working = refl; kept = refl; session = rw (not-unsound r e) }
-went op a b c x w k o (doing h p e) n = absurd (n refl)
+by-way : (op a b c : ℕ) (x : Session) (w k : List ℕ) (o : Outcome) → Way op a b c x w k o → (o .answer .refusal ≡ done → ⊥) → LeftAlone op x w k o
+by-way op a b c x w k o (unsound h) n = record { value = refl; working = refl; kept = refl; session = refl }
+by-way op a b c x w k o (refusing r h e) n = record { value = refl; working = refl; kept = refl; session = rw (not-unsound r e) }
+by-way op a b c x w k o (doing h p e) n = absurd (n refl)
 
 pub refusal-leaves-alone : (op a b c : ℕ) (x : Session) (w k : List ℕ)
     → (step op a b c x w k .answer .refusal ≡ done → ⊥)
     → LeftAlone op x w k (step op a b c x w k)
-refusal-leaves-alone op a b c x w k n = went op a b c x w k (step op a b c x w k) (way op a b c x w k) n
+refusal-leaves-alone op a b c x w k n = by-way op a b c x w k (step op a b c x w k) (way op a b c x w k) n

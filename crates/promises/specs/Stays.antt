@@ -7,7 +7,7 @@ use Rattle.session.specs.declared.state.Session.{Session}
 use Rattle.session.specs.Operations.{operationOf}
 use Rattle.session.specs.Sound.{sound}
 use Rattle.session.specs.Step.{Outcome, step}
-use Rattle.promises.specs.Keeps.Tests.{clash}
+use Rattle.logic.specs.Laws.Bools.{clash}
 use Rattle.promises.specs.Keeps.Range.{passed}
 use Rattle.promises.specs.Keeps.SessionFacts.{sound-test}
 use Rattle.promises.specs.Keeps.Ways.{Way, unsound, refusing, doing, way}
@@ -18,11 +18,11 @@ use Rattle.promises.specs.Keeps.Done.{done-sound}
 abbrev pub leavesSound : Outcome → Type 0
 leavesSound o = sound (o .answer .session) (o .working) (o .kept) ≡ true
 
-went : (op a b c : ℕ) (x : Session) (w k : List ℕ) (o : Outcome) → Way op a b c x w k o → c < 0x1_0000_0000 → sound x w k ≡ true → leavesSound o
-went op a b c x w k o (unsound u) l h = clash _ h u
-went op a b c x w k o (refusing r s e) l h = sound-test _ w k .passes (noted-sound x op r w k e (sound-test x w k .holds h))
-went op a b c x w k o (doing s p e) l h =
+by-way : (op a b c : ℕ) (x : Session) (w k : List ℕ) (o : Outcome) → Way op a b c x w k o → c < 0x1_0000_0000 → sound x w k ≡ true → leavesSound o
+by-way op a b c x w k o (unsound u) l h = clash _ h u
+by-way op a b c x w k o (refusing r s e) l h = sound-test _ w k .passes (noted-sound x op r w k e (sound-test x w k .holds h))
+by-way op a b c x w k o (doing s p e) l h =
     sound-test _ _ _ .passes (done-sound a b c x w k (sound-test x w k .holds h) l (operationOf op) (passed (operationOf op) a b c (x .state) w p) e)
 
 pub soundness-stays : (op a b c : ℕ) (x : Session) (w k : List ℕ) → c < 0x1_0000_0000 → sound x w k ≡ true → leavesSound (step op a b c x w k)
-soundness-stays op a b c x w k l h = went op a b c x w k (step op a b c x w k) (way op a b c x w k) l h
+soundness-stays op a b c x w k l h = by-way op a b c x w k (step op a b c x w k) (way op a b c x w k) l h

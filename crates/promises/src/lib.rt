@@ -1,3 +1,1 @@
-// Theorems about the session machine's definition of one call. The crate has no code of its own but this, which a crate
-// needs to be checked.
-pub fn nothing() {}
+// Theorems about the session machine's definition of one call, and no code.

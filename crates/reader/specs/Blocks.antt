@@ -1,25 +1,31 @@
 -- What a run of bytes does, record by record.
-use Prim.Native.Nat.{ℕ, zero, suc, _+_, _≤_, _<_}
+use Prim.Native.Nat.{ℕ, zero, suc, _+_, _*_, _≤_, _<_}
 use mathlib.Core.Bool.{Bool, true, false, cond, _&&_}
 use mathlib.Core.List.{List, [], _∷_, _++_}
-use lib.ListN.{length, take, drop, replicate}
-use Rattle.words.specs.Layout.{words}
+use lib.ListN.{length, take, drop}
 use Rattle.records.specs.declared.decoding.Record.{Record}
 use Rattle.records.specs.declared.decoding.Found.{Found}
 use Rattle.records.specs.declared.decoding.Found.the-variants.{Whole, Bad}
 use Rattle.records.specs.Records.{size, recordOf}
 use Rattle.records.specs.Lines.{lineText, badText, endText}
 use Rattle.session.specs.declared.state.Session.{Session}
-use Rattle.session.specs.States.{closedState, blankLog, session}
 use Rattle.session.specs.Step.{Outcome, core}
+use Rattle.session.specs.Runs.{freshSession, freshTable}
 use Rattle.reader.specs.declared.blocks.Run.{Run}
 
--- a block has 1024 records; the output has 64 bytes for the line of each, and for two lines more
+-- the records of a block, and the bytes that a line has room in
+abbrev pub blockRecords : ℕ
+blockRecords = 1024
+
+abbrev pub lineRoom : ℕ
+lineRoom = 64
+
+-- the output has room for the line of each, and for two lines more
 abbrev pub blockSize : ℕ
-blockSize = 16384
+blockSize = blockRecords * size
 
 abbrev pub outSize : ℕ
-outSize = 65664
+outSize = (blockRecords + 2) * lineRoom
 
 -- where the program stands between two records: how many are done, whether it goes on, and the text that it has for printing
 pub record Here : Type 0 where
@@ -37,12 +43,12 @@ here run out working kept =
 
 -- room for one line more, and a count that does not wrap
 pub record Room (run : Run) (out : List ℕ) : Type 0 where
-  pub fits : run .at + 64 ≤ length out
+  pub fits : run .at + lineRoom ≤ length out
   pub counts : run .done + 1 < 0x1_0000_0000_0000_0000
 
 -- one line later
 pub record Moved (start run : Run) : Type 0 where
-  pub short : run .at ≤ start .at + 64
+  pub short : run .at ≤ start .at + lineRoom
   pub one : run .done ≤ start .done + 1
 
 -- "For each record one line: its count from 1, operation, refusal, value"
@@ -88,13 +94,9 @@ afterRecords (suc k) (b ∷ bytes) x =
 abbrev pub afterBytes : List ℕ → Here → Here
 afterBytes bytes x = afterRecords (length bytes) bytes x
 
--- "The start is fresh": "all words 0, session closed"
+-- "The start is fresh"
 abbrev pub freshRun : Run
-freshRun = record { session = session closedState blankLog; done = 0; at = 0; on = true }
+freshRun = record { session = freshSession; done = 0; at = 0; on = true }
 
 abbrev pub start : Here
-start = here freshRun [] (replicate words 0) (replicate words 0)
-
--- all that the program prints
-abbrev pub printed : List ℕ → List ℕ
-printed input = afterEnd true (afterBytes input start) .text
+start = here freshRun [] freshTable freshTable

@@ -1,3 +1,4 @@
 -- What the proofs cite of the definitions.
 pub mod Blocks
 pub mod Whole
+pub mod Printed

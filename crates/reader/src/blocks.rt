@@ -5,7 +5,7 @@ ghost use Prim.Native.Nat.{ℕ, _≤_, _<_, _+_, _*_};
 ghost use mathlib.Core.List.{List};
 ghost use lib.ListN.{length, take};
 ghost use Rattle.records.specs.Records.{recordOf};
-ghost use Rattle.reader.specs.Blocks.{blockSize, freshRun, here, Room, Moved, afterRecord, afterBad, afterFound, afterEnd, afterBytes};
+ghost use Rattle.reader.specs.Blocks.{blockRecords, blockSize, lineRoom, freshRun, here, Room, Moved, afterRecord, afterBad, afterFound, afterEnd, afterBytes};
 use records::decoding::Found;
 use records::decoding::Record;
 use records::decoding::SIZE;
@@ -18,8 +18,15 @@ use session::events::blank_log;
 use session::state::Session;
 use session::state::closed_state;
 
-// The bytes of a block.
-pub const BLOCK: usize = 16384;
+// The records of a block, and the bytes that a line of text has room in.
+const RECORDS: usize = 1024;
+
+const LINE: usize = 64;
+
+// The bytes of a block, and of the text for it: a line for each record, and two more.
+pub const BLOCK: usize = RECORDS * SIZE;
+
+pub const OUT: usize = (RECORDS + 2) * LINE;
 
 // What is carried from record to record: the session, how many records are done, the next position in the output, and
 // whether the program goes on.
@@ -95,8 +102,8 @@ pub fn run_block(
     working: &mut [u64],
     kept: &mut [u64],
 ) -> Run
-    requires { ⌜ (got ≤ length (now block)) × (got ≤ blockSize) × (start .at + 4 * got + 64 ≤ length (now out)) × (start .done + 1024 < 0x1_0000_0000_0000_0000) ⌝ }
-    ensures { λ r. ⌜ (here r (now (out .exit)) (now (working .exit)) (now (kept .exit)) ≡ afterBytes (take got (now (block .entry))) (here start (now (out .entry)) (now (working .entry)) (now (kept .entry)))) × (r .at ≤ start .at + 4 * got + 64) × (r .done ≤ start .done + 1024) ⌝ }
+    requires { ⌜ (got ≤ length (now block)) × (got ≤ blockSize) × (start .at + 4 * got + lineRoom ≤ length (now out)) × (start .done + blockRecords < 0x1_0000_0000_0000_0000) ⌝ }
+    ensures { λ r. ⌜ (here r (now (out .exit)) (now (working .exit)) (now (kept .exit)) ≡ afterBytes (take got (now (block .entry))) (here start (now (out .entry)) (now (working .entry)) (now (kept .entry)))) × (r .at ≤ start .at + 4 * got + lineRoom) × (r .done ≤ start .done + blockRecords) ⌝ }
 {
     let mut run = start;
     let mut from = 0;
@@ -112,8 +119,8 @@ pub fn run_block(
 
 // At the end of the input: how many records were done.
 pub fn ended(start: Run, over: bool, out: &mut [u8]) -> Run
-    requires { ⌜ start .at + 64 ≤ length (now out) ⌝ }
-    ensures { λ r. ⌜ ((w k : List ℕ) → here r (now (out .exit)) w k ≡ afterEnd over (here start (now (out .entry)) w k)) × (r .at ≤ start .at + 64) × (r .done ≡ start .done) ⌝ }
+    requires { ⌜ start .at + lineRoom ≤ length (now out) ⌝ }
+    ensures { λ r. ⌜ ((w k : List ℕ) → here r (now (out .exit)) w k ≡ afterEnd over (here start (now (out .entry)) w k)) × (r .at ≤ start .at + lineRoom) × (r .done ≡ start .done) ⌝ }
 {
     if start.on & over {
         let session = start.session;

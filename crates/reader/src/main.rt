@@ -5,22 +5,24 @@ mod blocks;
 ghost use mathlib.Core.Path.{_≡_};
 ghost use Prim.Native.Nat.{_≤_, _<_, _+_};
 ghost use lib.ListN.{length};
-ghost use Rattle.reader.specs.Blocks.{blockSize, outSize};
+ghost use Rattle.reader.specs.Blocks.{blockRecords, blockSize, outSize};
 use blocks::BLOCK;
+use blocks::OUT;
 use blocks::Run;
 use blocks::ended;
 use blocks::fresh;
 use blocks::run_block;
 use libc::STDIN_FILENO;
 use libc::STDOUT_FILENO;
+use words::layout::WORDS;
 
 // A proved loop has to end. So many blocks are 2^64 bytes, which no input has.
 const TURNS: u64 = 0x4_0000_0000_0000;
 
 // One block: what is read, what it prints, and whether the program goes on. A write that fails stops it.
 fn turn(start: Run, block: &mut [u8], out: &mut [u8], working: &mut [u64], kept: &mut [u64]) -> Run
-    requires { ⌜ (length (now block) ≡ blockSize) × (length (now out) ≡ outSize) × (start .at ≡ 0) × (start .done + 1024 < 0x1_0000_0000_0000_0000) ⌝ }
-    ensures { λ r. ⌜ (r .at ≡ 0) × (r .done ≤ start .done + 1024) ⌝ }
+    requires { ⌜ (length (now block) ≡ blockSize) × (length (now out) ≡ outSize) × (start .at ≡ 0) × (start .done + blockRecords < 0x1_0000_0000_0000_0000) ⌝ }
+    ensures { λ r. ⌜ (r .at ≡ 0) × (r .done ≤ start .done + blockRecords) ⌝ }
 {
     let got = io::read_full(STDIN_FILENO, block);
     let run = run_block(start, block, got, out, working, kept);
@@ -48,9 +50,9 @@ fn serve(block: &mut [u8], out: &mut [u8], working: &mut [u64], kept: &mut [u64]
 }
 
 fn main() {
-    let mut block = [0u8; 16384];
-    let mut out = [0u8; 65664];
-    let mut working = [0u64; 736];
-    let mut kept = [0u64; 736];
+    let mut block = [0u8; BLOCK];
+    let mut out = [0u8; OUT];
+    let mut working = [0u64; WORDS];
+    let mut kept = [0u64; WORDS];
     serve(&mut block, &mut out, &mut working, &mut kept);
 }

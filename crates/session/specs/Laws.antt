@@ -1,6 +1,5 @@
 -- What callers cite of the definitions.
 pub mod Operations
-pub mod Performed
 pub mod Checks
 pub mod Events
 pub mod Sound

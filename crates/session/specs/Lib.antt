@@ -1,10 +1,11 @@
 pub mod Refusals
 pub mod Operations
-pub mod Performed
 pub mod States
 pub mod Sound
-pub mod Access
+pub mod Quick
 pub mod Checks
 pub mod Effects
+pub mod Rows
 pub mod Step
+pub mod Runs
 pub mod Laws

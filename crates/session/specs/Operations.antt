@@ -1,12 +1,14 @@
--- The operations by their numbers, and the family of each.
+-- The operations by their numbers, each in its family: 1, which opens a session; those that ask for an open session; those of
+-- 20 to 45 that ask for a transaction, and those that ask for one that writes.
 use Prim.Native.Nat.{ℕ}
 use mathlib.Core.List.{List, [], _∷_}
 use mathlib.Core.Bool.{cond}
 use lib.Dec.{eqb}
 use Rattle.session.specs.declared.operations.Operation.{Operation}
 use Rattle.session.specs.declared.operations.Operation.the-variants as operation
-use Rattle.session.specs.declared.operations.Family.{Family}
-use Rattle.session.specs.declared.operations.Family.the-variants as family
+use Rattle.session.specs.declared.operations.InSession.the-variants as inSession
+use Rattle.session.specs.declared.operations.Reader.the-variants as reader
+use Rattle.session.specs.declared.operations.Writer.the-variants as writer
 
 pub record Numbered : Type 0 where
   pub number : ℕ
@@ -19,35 +21,35 @@ n is o = record { number = n; names = o }
 -- the page's operations, in its order
 unfoldable pub listed : List Numbered
 listed =
-    1 is operation.OpenSession
-    ∷ 2 is operation.CloseSession
-    ∷ 3 is operation.OpenRepository
-    ∷ 4 is operation.CloseRepository
-    ∷ 5 is operation.StartReadWrite
-    ∷ 6 is operation.StartReadOnly
-    ∷ 7 is operation.Commit
-    ∷ 8 is operation.Abort
-    ∷ 9 is operation.EndCommit
-    ∷ 10 is operation.EndAbort
-    ∷ 11 is operation.StartRecording
-    ∷ 12 is operation.StopRecording
-    ∷ 13 is operation.StorageFault
-    ∷ 20 is operation.CreateModel
-    ∷ 21 is operation.DeleteModel
-    ∷ 22 is operation.ReadOnlyAccess
-    ∷ 23 is operation.ReadWriteAccess
-    ∷ 24 is operation.EndAccess
-    ∷ 30 is operation.CreateSchemaInstance
-    ∷ 31 is operation.DeleteSchemaInstance
-    ∷ 32 is operation.AddModel
-    ∷ 33 is operation.RemoveModel
-    ∷ 40 is operation.CreateInstance
-    ∷ 41 is operation.DeleteInstance
-    ∷ 42 is operation.Get
-    ∷ 43 is operation.Test
-    ∷ 44 is operation.Put
-    ∷ 45 is operation.Unset
-    ∷ 46 is operation.IsSubtype
+    1 is operation.Opening
+    ∷ 2 is (operation.InSession inSession.CloseSession)
+    ∷ 3 is (operation.InSession inSession.OpenRepository)
+    ∷ 4 is (operation.InSession inSession.CloseRepository)
+    ∷ 5 is (operation.InSession inSession.StartReadWrite)
+    ∷ 6 is (operation.InSession inSession.StartReadOnly)
+    ∷ 7 is (operation.InSession inSession.Commit)
+    ∷ 8 is (operation.InSession inSession.Abort)
+    ∷ 9 is (operation.InSession inSession.EndCommit)
+    ∷ 10 is (operation.InSession inSession.EndAbort)
+    ∷ 11 is (operation.InSession inSession.StartRecording)
+    ∷ 12 is (operation.InSession inSession.StopRecording)
+    ∷ 13 is (operation.InSession inSession.StorageFault)
+    ∷ 20 is (operation.Writer writer.CreateModel)
+    ∷ 21 is (operation.Writer writer.DeleteModel)
+    ∷ 22 is (operation.Reader reader.ReadOnlyAccess)
+    ∷ 23 is (operation.Writer writer.ReadWriteAccess)
+    ∷ 24 is (operation.Reader reader.EndAccess)
+    ∷ 30 is (operation.Writer writer.CreateSchemaInstance)
+    ∷ 31 is (operation.Writer writer.DeleteSchemaInstance)
+    ∷ 32 is (operation.Writer writer.AddModel)
+    ∷ 33 is (operation.Writer writer.RemoveModel)
+    ∷ 40 is (operation.Writer writer.CreateInstance)
+    ∷ 41 is (operation.Writer writer.DeleteInstance)
+    ∷ 42 is (operation.Reader reader.Get)
+    ∷ 43 is (operation.Reader reader.Test)
+    ∷ 44 is (operation.Writer writer.Put)
+    ∷ 45 is (operation.Writer writer.Unset)
+    ∷ 46 is (operation.InSession inSession.IsSubtype)
     ∷ []
 
 unfoldable pub lookup : ℕ → List Numbered → Operation
@@ -59,36 +61,3 @@ lookup n (row ∷ rows) =
 -- "FN_NAVL for an operation number not listed"
 unfoldable pub operationOf : ℕ → Operation
 operationOf n = lookup n listed
-
--- "for 20 to 45: TR_EAB if the transaction is aborted, TR_NAVL if none; and for 20, 21, 23, 30 to 33, 40, 41, 44, 45: TR_NRW if it is RO"
-abbrev pub familyOf : Operation → Family
-familyOf operation.OpenSession = family.Opening
-familyOf operation.CloseSession = family.Session
-familyOf operation.OpenRepository = family.Session
-familyOf operation.CloseRepository = family.Session
-familyOf operation.StartReadWrite = family.Session
-familyOf operation.StartReadOnly = family.Session
-familyOf operation.Commit = family.Session
-familyOf operation.Abort = family.Session
-familyOf operation.EndCommit = family.Session
-familyOf operation.EndAbort = family.Session
-familyOf operation.StartRecording = family.Session
-familyOf operation.StopRecording = family.Session
-familyOf operation.StorageFault = family.Session
-familyOf operation.CreateModel = family.Writer
-familyOf operation.DeleteModel = family.Writer
-familyOf operation.ReadOnlyAccess = family.Reader
-familyOf operation.ReadWriteAccess = family.Writer
-familyOf operation.EndAccess = family.Reader
-familyOf operation.CreateSchemaInstance = family.Writer
-familyOf operation.DeleteSchemaInstance = family.Writer
-familyOf operation.AddModel = family.Writer
-familyOf operation.RemoveModel = family.Writer
-familyOf operation.CreateInstance = family.Writer
-familyOf operation.DeleteInstance = family.Writer
-familyOf operation.Get = family.Reader
-familyOf operation.Test = family.Reader
-familyOf operation.Put = family.Writer
-familyOf operation.Unset = family.Writer
-familyOf operation.IsSubtype = family.Session
-familyOf operation.Unlisted = family.Unlisted

@@ -28,11 +28,11 @@ TR-EAB = 5
 abbrev pub TR-EXS : ℕ
 TR-EXS = 6
 
--- there is no transaction
+-- no transaction to end, commit or abort
 abbrev pub TR-NEXS : ℕ
 TR-NEXS = 7
 
--- there is no transaction
+-- no transaction to work in
 abbrev pub TR-NAVL : ℕ
 TR-NAVL = 8
 

@@ -5,7 +5,7 @@ use mathlib.Core.List.{List}
 use lib.Dec.{eqb, ltb, leb}
 use lib.ListN.{length, getD}
 use Rattle.words.specs.declared.layout.Kind.the-variants.{Model}
-use Rattle.words.specs.Search.{allB}
+use Rattle.logic.specs.Search.{allB}
 use Rattle.words.specs.Sets.{none, bits, has}
 use Rattle.words.specs.Fields.{repositories, repositoryIn}
 use Rattle.tables.specs.View.{isLive, labelAt}

@@ -11,9 +11,9 @@ use Rattle.session.specs.Refusals.{SY-ERR, done}
 use Rattle.session.specs.Operations.{operationOf}
 use Rattle.session.specs.States.{isOpen, blankLog, session, noted}
 use Rattle.session.specs.Sound.{sound}
-use Rattle.session.specs.Checks.{refusalOf}
 use Rattle.session.specs.declared.effects.Effect.{Effect}
-use Rattle.session.specs.Effects.{workingAfter, keptAfter, effect}
+use Rattle.session.specs.Effects.{workingAfter, keptAfter}
+use Rattle.session.specs.Rows.{performed}
 
 pub record Outcome : Type 0 where
   pub answer : Answer
@@ -41,18 +41,14 @@ logAfter s l = cond (isOpen s) l blankLog
 abbrev pub finishedAnswer : ℕ → Session → ℕ → ℕ → State → Answer
 finishedAnswer op x refusal value s = cond (eqb refusal done) (answer done value (session s (logAfter s (x .log)))) (refusedAnswer op refusal x)
 
--- where room is wanting the effect leaves the tables as they are
+-- a refused effect leaves the tables as they are
 abbrev pub finished : ℕ → Session → List ℕ → List ℕ → Effect → Outcome
 finished op x w k e =
     outcome (finishedAnswer op x (e .refusal) (e .value) (e .state)) (workingAfter (e .tables) w k) (keptAfter (e .tables) w k)
 
 -- a call on a sound state
-abbrev pub decided : ℕ → ℕ → Session → List ℕ → List ℕ → Effect → Outcome
-decided op refusal x w k e = cond (eqb refusal done) (finished op x w k e) (refused op refusal x w k)
-
 unfoldable pub core : ℕ → ℕ → ℕ → ℕ → Session → List ℕ → List ℕ → Outcome
-core op a b c x w k =
-    decided op (refusalOf (operationOf op) a b c (x .state) w) x w k (effect (operationOf op) a b c (x .state) w)
+core op a b c x w k = finished op x w k (performed (operationOf op) a b c (x .state) w)
 
 -- "First for every call: SY_ERR if anything above is unsound"; "SY_ERR adds none and returns the session as given"
 unfoldable pub step : ℕ → ℕ → ℕ → ℕ → Session → List ℕ → List ℕ → Outcome

@@ -1,12 +1,16 @@
 // The session machine: every operation, its checks and its effects, and the one call.
-pub mod answers;
+mod answers;
 pub mod call;
-pub mod checks;
-pub mod conditions;
-pub mod effects;
+mod checks;
+mod conditions;
+mod effects;
 pub mod events;
-pub mod gate;
-pub mod operations;
+mod gate;
+mod in_session;
+mod operations;
+mod perform;
+mod readers;
 pub mod refusals;
 mod sound;
 pub mod state;
+mod writers;

@@ -1,10 +1,21 @@
-// Which operation a number names, and to which family it belongs.
+// Which operation a number names, by its family: what the gate asks of an operation goes by the family alone.
 ghost use mathlib.Core.Path.{_≡_};
 ghost use Prim.Native.Nat.{_≤_};
 ghost use Rattle.session.specs.Operations.{operationOf};
 
 pub enum Operation {
-    OpenSession,
+    Unlisted,
+    // Asks that no session is open.
+    Opening,
+    // Asks that a session is open.
+    InSession(InSession),
+    // Asks for a transaction.
+    Reader(Reader),
+    // Asks for one that writes.
+    Writer(Writer),
+}
+
+pub enum InSession {
     CloseSession,
     OpenRepository,
     CloseRepository,
@@ -17,52 +28,49 @@ pub enum Operation {
     StartRecording,
     StopRecording,
     StorageFault,
+    IsSubtype,
+}
+
+pub enum Reader {
+    ReadOnlyAccess,
+    EndAccess,
+    Get,
+    Test,
+}
+
+pub enum Writer {
     CreateModel,
     DeleteModel,
-    ReadOnlyAccess,
     ReadWriteAccess,
-    EndAccess,
     CreateSchemaInstance,
     DeleteSchemaInstance,
     AddModel,
     RemoveModel,
     CreateInstance,
     DeleteInstance,
-    Get,
-    Test,
     Put,
     Unset,
-    IsSubtype,
-    Unlisted,
 }
 
-// What the gate asks of an operation: nothing but that a session is open, or a transaction, or one that writes.
-pub enum Family {
-    Unlisted,
-    Opening,
-    Session,
-    Reader,
-    Writer,
-}
-
+// A number that no case names is unlisted, and the gate has FN_NAVL for it.
 pub fn operation_of(number: u32) -> Operation
     ensures { λ r. ⌜ r ≡ operationOf number ⌝ }
 {
     match number {
-        1 => Operation::OpenSession,
-        2 => Operation::CloseSession,
-        3 => Operation::OpenRepository,
-        4 => Operation::CloseRepository,
-        5 => Operation::StartReadWrite,
-        6 => Operation::StartReadOnly,
-        7 => Operation::Commit,
-        8 => Operation::Abort,
-        9 => Operation::EndCommit,
-        10 => Operation::EndAbort,
-        11 => Operation::StartRecording,
-        12 => Operation::StopRecording,
-        13 => Operation::StorageFault,
-        46 => Operation::IsSubtype,
+        1 => Operation::Opening,
+        2 => Operation::InSession(InSession::CloseSession),
+        3 => Operation::InSession(InSession::OpenRepository),
+        4 => Operation::InSession(InSession::CloseRepository),
+        5 => Operation::InSession(InSession::StartReadWrite),
+        6 => Operation::InSession(InSession::StartReadOnly),
+        7 => Operation::InSession(InSession::Commit),
+        8 => Operation::InSession(InSession::Abort),
+        9 => Operation::InSession(InSession::EndCommit),
+        10 => Operation::InSession(InSession::EndAbort),
+        11 => Operation::InSession(InSession::StartRecording),
+        12 => Operation::InSession(InSession::StopRecording),
+        13 => Operation::InSession(InSession::StorageFault),
+        46 => Operation::InSession(InSession::IsSubtype),
         20..=45 => transacted(number),
         _ => Operation::Unlisted,
     }
@@ -74,17 +82,17 @@ fn transacted(number: u32) -> Operation
     ensures { λ r. ⌜ r ≡ operationOf number ⌝ }
 {
     match number {
-        20 => Operation::CreateModel,
-        21 => Operation::DeleteModel,
-        22 => Operation::ReadOnlyAccess,
-        23 => Operation::ReadWriteAccess,
-        24 => Operation::EndAccess,
-        40 => Operation::CreateInstance,
-        41 => Operation::DeleteInstance,
-        42 => Operation::Get,
-        43 => Operation::Test,
-        44 => Operation::Put,
-        45 => Operation::Unset,
+        20 => Operation::Writer(Writer::CreateModel),
+        21 => Operation::Writer(Writer::DeleteModel),
+        22 => Operation::Reader(Reader::ReadOnlyAccess),
+        23 => Operation::Writer(Writer::ReadWriteAccess),
+        24 => Operation::Reader(Reader::EndAccess),
+        40 => Operation::Writer(Writer::CreateInstance),
+        41 => Operation::Writer(Writer::DeleteInstance),
+        42 => Operation::Reader(Reader::Get),
+        43 => Operation::Reader(Reader::Test),
+        44 => Operation::Writer(Writer::Put),
+        45 => Operation::Writer(Writer::Unset),
         30..=33 => of_schema_instances(number),
         _ => Operation::Unlisted,
     }
@@ -95,9 +103,10 @@ fn of_schema_instances(number: u32) -> Operation
     ensures { λ r. ⌜ r ≡ operationOf number ⌝ }
 {
     match number {
-        30 => Operation::CreateSchemaInstance,
-        31 => Operation::DeleteSchemaInstance,
-        32 => Operation::AddModel,
-        _ => Operation::RemoveModel,
+        30 => Operation::Writer(Writer::CreateSchemaInstance),
+        31 => Operation::Writer(Writer::DeleteSchemaInstance),
+        32 => Operation::Writer(Writer::AddModel),
+        33 => Operation::Writer(Writer::RemoveModel),
+        _ => Operation::Unlisted,
     }
 }

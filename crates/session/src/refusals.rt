@@ -12,9 +12,9 @@ pub const SS_NOPN: u32 = 4;
 pub const TR_EAB: u32 = 5;
 // a transaction exists
 pub const TR_EXS: u32 = 6;
-// there is no transaction
+// no transaction to end, commit or abort
 pub const TR_NEXS: u32 = 7;
-// there is no transaction
+// no transaction to work in
 pub const TR_NAVL: u32 = 8;
 // the transaction is read-only
 pub const TR_NRW: u32 = 9;

@@ -6,7 +6,7 @@ ghost use lib.ListN.{length};
 ghost use Rattle.words.specs.Layout.{words};
 ghost use Rattle.words.specs.Sets.{insert};
 ghost use Rattle.session.specs.Sound.{soundEvent, isBlank, soundPlace, soundPlaces, soundLog, soundAccess, soundTransaction, soundOpen, soundSession};
-ghost use Rattle.session.specs.Access.{isSeen, inOpen};
+ghost use Rattle.session.specs.Quick.Access.{isSeen, inOpen};
 use crate::events::PLACES;
 use crate::refusals;
 use crate::state::ABORTED;

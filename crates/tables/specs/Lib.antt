@@ -1,11 +1,7 @@
 pub mod View
 pub mod Sound
-pub mod References
+pub mod Edits
+pub mod Deletions
 pub mod Changes
-pub mod Names
-pub mod Live
-pub mod Labels
-pub mod Values
-pub mod Going
-pub mod Pointers
+pub mod Quick
 pub mod Laws

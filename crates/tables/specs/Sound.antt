@@ -6,7 +6,7 @@ use lib.Dec.{eqb, ltb}
 use Rattle.words.specs.declared.layout.Kind.{Kind}
 use Rattle.words.specs.declared.layout.Kind.the-variants.{Model, SchemaInstance, Instance}
 use Rattle.words.specs.Layout.{countOf}
-use Rattle.words.specs.Search.{allB}
+use Rattle.logic.specs.Search.{allB}
 use Rattle.words.specs.Sets.{none, bits, has}
 use Rattle.words.specs.Fields.{nameIn, repositoryIn, schemaIn, typeIn, modelIn, values, isLabel, isHeader, isFree, isNamed}
 use Rattle.words.specs.Entries.{freeAt, allFormed}
@@ -54,15 +54,16 @@ soundInstance t i =
     (allB values (λ k. eqb (valueAt t i k) 0))
     (soundHeader t (headerAt t i) && allB values (λ k. soundValue t (attributeOf (typeAt t i) k) (isSet t i k) (valueAt t i k)))
 
--- "at least 736 words. Every entry is free or well formed"
+-- "Every entry is free or well formed": the models and the schema instances, then the instances
+abbrev pub soundEntries : List ℕ → Bool
+soundEntries t = allFormed t Model && distinct t Model && allB (countOf SchemaInstance) (soundGroup t) && distinct t SchemaInstance
+
+abbrev pub soundInstances : List ℕ → Bool
+soundInstances t = allB (countOf Instance) (soundInstance t)
+
+-- "at least 736 words"
 unfoldable pub soundTable : List ℕ → Bool
-soundTable t =
-    isLong t
-    && allFormed t Model
-    && distinct t Model
-    && allB (countOf SchemaInstance) (soundGroup t)
-    && distinct t SchemaInstance
-    && allB (countOf Instance) (soundInstance t)
+soundTable t = isLong t && soundEntries t && soundInstances t
 
 -- "Unless a read-write transaction is open, both tables agree in words 0 to 735."
 unfoldable pub soundTables : Bool → List ℕ → List ℕ → Bool

@@ -1,9 +1,12 @@
 -- What the words of a table say: a name for each.
 use Prim.Native.Nat.{ℕ, _+_}
-use mathlib.Core.Bool.{Bool, not}
+use mathlib.Core.Bool.{Bool, not, _&&_}
 use mathlib.Core.List.{List}
 use Rattle.words.specs.declared.layout.Kind.{Kind}
 use Rattle.words.specs.declared.layout.Kind.the-variants.{SchemaInstance, Instance}
+use Rattle.words.specs.Layout.{countOf}
+use Rattle.logic.specs.Search.{anyB}
+use Rattle.words.specs.Sets.{has}
 use Rattle.words.specs.Fields.{typeIn, modelIn, flagged}
 use Rattle.words.specs.Entries.{wordOf, freeAt}
 
@@ -18,6 +21,10 @@ labelAt t kind i = wordOf t kind i 0
 -- the set of a schema instance
 abbrev pub setAt : List ℕ → ℕ → ℕ
 setAt t s = wordOf t SchemaInstance s 1
+
+-- two models "in one set"
+unfoldable pub shareSet : List ℕ → ℕ → ℕ → Bool
+shareSet t m n = anyB (countOf SchemaInstance) (λ s. has (setAt t s) m && has (setAt t s) n)
 
 -- an instance: its header, with type, model and flags, and its value words
 abbrev pub headerAt : List ℕ → ℕ → ℕ

@@ -3,8 +3,9 @@ ghost use mathlib.Core.Path.{_≡_};
 ghost use mathlib.Core.Bool.{cond};
 ghost use Prim.Native.Nat.{_≤_};
 ghost use Rattle.words.specs.Sets.{insert};
-ghost use Rattle.tables.specs.References.{thoseOf};
-ghost use Rattle.tables.specs.Going as spec;
+ghost use Rattle.words.specs.declared.layout.Kind.the-variants as kinds;
+ghost use Rattle.tables.specs.Deletions.{goesWith};
+ghost use Rattle.tables.specs.Quick.Going as spec;
 use crate::view::header_at;
 use words::fields::model_in;
 use words::sets;
@@ -79,7 +80,7 @@ pub fn one(i: u32) -> Going
 
 // Instance i is a live one of model m.
 pub fn is_of(t: &[u64], m: u32, i: u32) -> bool
-    ensures { λ r. ⌜ r ≡ thoseOf (now (t .entry)) m i ⌝ }
+    ensures { λ r. ⌜ r ≡ goesWith (now (t .entry)) kinds.Model m i ⌝ }
 {
     let h = header_at(t, i);
     (h != 0) & (model_in(h) == m)

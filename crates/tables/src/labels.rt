@@ -4,7 +4,7 @@ ghost use mathlib.Core.Path.{_≡_};
 ghost use Prim.Native.Nat.{_≤_};
 ghost use lib.ListN.{length};
 ghost use Rattle.words.specs.Layout.{words};
-ghost use Rattle.tables.specs.Labels.{testedLabels};
+ghost use Rattle.tables.specs.Quick.Labels.{testedLabels};
 use super::live::Live;
 use super::live::joined;
 use super::live::nobody;

@@ -1,7 +1,7 @@
 // The live entries of each schema as sets, built once, so that a set of models and an instance's model are tested by one word.
 ghost use mathlib.Core.Path.{_≡_};
 ghost use Rattle.words.specs.Sets.{has as hasBit};
-ghost use Rattle.tables.specs.Live.{noLive, withLive, ofSchema, within, modelFits};
+ghost use Rattle.tables.specs.Quick.Live.{noLive, withLive, ofSchema, within, modelFits};
 use dictionary::schema;
 use words::fields::model_in;
 use words::sets::BITS;

@@ -1,6 +1,6 @@
 // Names of models and schema instances: whether an entry's name is new, and the bucket that its label falls into.
 ghost use mathlib.Core.Path.{_≡_};
-ghost use Rattle.tables.specs.Names.{isNew, bucketOf};
+ghost use Rattle.tables.specs.Quick.Names.{isNew, bucketOf};
 ghost use Rattle.tables.specs.Sound.{sameName};
 use super::view::label_at;
 use words::fields::is_free;

@@ -5,10 +5,10 @@ ghost use Prim.Native.Nat.{_≤_, _<_};
 ghost use lib.ListN.{length};
 ghost use Rattle.words.specs.declared.layout.Kind.the-variants.{Model, SchemaInstance, Instance};
 ghost use Rattle.words.specs.Layout.{words, countOf};
-ghost use Rattle.words.specs.Search.{allB};
-ghost use Rattle.tables.specs.Live.{liveIn};
-ghost use Rattle.tables.specs.Labels.{labelled, soundLabels, testedEntries, soundEntries, sameEntries};
-ghost use Rattle.tables.specs.Sound.{soundGroup, soundInstance, soundTable, soundTables};
+ghost use Rattle.logic.specs.Search.{allB};
+ghost use Rattle.tables.specs.Quick.Live.{liveIn};
+ghost use Rattle.tables.specs.Quick.Labels.{labelled, soundLabels, testedEntries, sameEntries};
+ghost use Rattle.tables.specs.Sound.{soundGroup, soundInstance, soundEntries, soundInstances, soundTable, soundTables};
 use super::labels::Tested;
 use super::labels::test_labels;
 use super::live::Live;
@@ -89,7 +89,7 @@ fn sound_instance(t: &[u64], live: Live, i: u32) -> bool
 
 fn sound_instances(t: &[u64], live: Live) -> bool
     requires { ⌜ (live ≡ liveIn (now t) Model) × (words ≤ length (now t)) ⌝ }
-    ensures { λ r. ⌜ r ≡ allB (countOf Instance) (soundInstance (now (t .entry))) ⌝ }
+    ensures { λ r. ⌜ r ≡ soundInstances (now (t .entry)) ⌝ }
 {
     let n = count(Kind::Instance);
     let mut i = 0;

@@ -5,7 +5,7 @@ ghost use Prim.Native.Nat.{_+_, _≤_, _<_};
 ghost use lib.ListN.{length};
 ghost use Rattle.words.specs.Layout.{words};
 ghost use Rattle.words.specs.Fields.{values};
-ghost use Rattle.tables.specs.Values.{flagsFit, excessOf, wordsFit, targetFits, referenceFits, noValues};
+ghost use Rattle.tables.specs.Quick.Values.{flagsFit, excessOf, wordsFit, targetFits, referenceFits, noValues};
 use super::live::is_member;
 use words::fields::FLAGS;
 use words::fields::is_flagged;

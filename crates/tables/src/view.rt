@@ -1,10 +1,14 @@
 // What the words of a table say.
 ghost use mathlib.Core.Path.{_≡_};
-ghost use Rattle.tables.specs.View.{isLive, labelAt, setAt, headerAt, isSet, valueAt};
+ghost use mathlib.Core.Bool.{_&&_};
+ghost use Rattle.words.specs.Sets.{has as hasBit};
+ghost use Rattle.tables.specs.View.{isLive, labelAt, setAt, shareSet, headerAt, isSet, valueAt};
 use words::entries::read;
 use words::fields::VALUES;
 use words::fields::is_flagged;
 use words::layout::Kind;
+use words::layout::count;
+use words::sets::has;
 
 // A number past the last entry is not live.
 pub fn is_live(t: &[u64], kind: Kind, i: u32) -> bool
@@ -25,6 +29,27 @@ pub fn set_at(t: &[u64], s: u32) -> u64
     ensures { λ r. ⌜ r ≡ setAt (now (t .entry)) s ⌝ }
 {
     read(t, Kind::SchemaInstance, s, 1)
+}
+
+fn has_both(set: u64, m: u32, n: u32) -> bool
+    ensures { λ r. ⌜ r ≡ (hasBit set m && hasBit set n) ⌝ }
+{
+    has(set, m) & has(set, n)
+}
+
+// Two models "in one set".
+pub fn share_set(t: &[u64], m: u32, n: u32) -> bool
+    ensures { λ r. ⌜ r ≡ shareSet (now (t .entry)) m n ⌝ }
+{
+    let all = count(Kind::SchemaInstance);
+    let mut s = 0;
+    while s < all {
+        if has_both(set_at(t, s), m, n) {
+            return true;
+        }
+        s += 1;
+    }
+    false
 }
 
 // The header of an instance.

@@ -5,7 +5,7 @@ use mathlib.Core.List.{List, _++_}
 use lib.Dec.{eqb, leb}
 use lib.ListN.{length, getD, take, drop}
 use Rattle.words.specs.Layout.{words}
-use Rattle.words.specs.Search.{allB}
+use Rattle.logic.specs.Search.{allB}
 
 -- "Both tables have at least 736 words."
 abbrev pub isLong : List ℕ → Bool

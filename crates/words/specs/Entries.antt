@@ -1,13 +1,13 @@
 -- Reading and writing the words of an entry. A number past the last entry reads as free, and writing there changes nothing.
 use Prim.Native.Nat.{ℕ, zero, suc, _+_, _-_}
 use mathlib.Core.Bool.{Bool, cond, _&&_, _||_}
-use mathlib.Core.List.{List, [], _∷_}
-use lib.Dec.{ltb}
+use mathlib.Core.List.{List}
+use lib.Dec.{eqb, ltb}
 use lib.ListN.{getD, set}
 use Rattle.words.specs.declared.layout.Kind.{Kind}
 use Rattle.words.specs.Layout.{strideOf, countOf, placeOf}
 use Rattle.words.specs.Fields.{isFree, wellFormed, isNamed}
-use Rattle.words.specs.Search.{allB, anyB, firstFrom}
+use Rattle.logic.specs.Search.{allB, anyB, firstFrom}
 
 -- the kind has an entry i with a word k
 abbrev pub inEntry : Kind → ℕ → ℕ → Bool
@@ -20,26 +20,37 @@ wordOf t kind i k = cond (inEntry kind i k) (getD t (placeOf kind i + k) 0) 0
 abbrev pub withWord : List ℕ → Kind → ℕ → ℕ → ℕ → List ℕ
 withWord t kind i k w = cond (inEntry kind i k) (set t (placeOf kind i + k) w) t
 
--- a whole entry as five words, those that its kind lacks 0
-abbrev pub entryOf : List ℕ → Kind → ℕ → List ℕ
-entryOf t kind i = wordOf t kind i 0 ∷ wordOf t kind i 1 ∷ wordOf t kind i 2 ∷ wordOf t kind i 3 ∷ wordOf t kind i 4 ∷ []
+-- ---- whole entries
 
--- the first n of the words ws as words 0 to n - 1 of entry i
-unfoldable pub withWords : List ℕ → Kind → ℕ → List ℕ → ℕ → List ℕ
-withWords t kind i ws zero = t
-withWords t kind i ws (suc n) = withWord (withWords t kind i ws n) kind i n (getD ws n 0)
+-- a first word and zeros after it
+abbrev pub firstThenZeros : ℕ → ℕ → ℕ
+firstThenZeros first k = cond (eqb k 0) first 0
 
-abbrev pub withEntry : List ℕ → Kind → ℕ → List ℕ → List ℕ
-withEntry t kind i ws = withWords t kind i ws (strideOf kind)
+-- so the words of entry i below n
+unfoldable pub filled : List ℕ → Kind → ℕ → ℕ → ℕ → List ℕ
+filled t kind i first zero = t
+filled t kind i first (suc n) = withWord (filled t kind i first n) kind i n (firstThenZeros first n)
+
+-- entry i is made: its first word, and zeros over the rest of its stride
+abbrev pub withEntry : List ℕ → Kind → ℕ → ℕ → List ℕ
+withEntry t kind i first = filled t kind i first (strideOf kind)
+
+-- entry i is free again: zeros over its stride
+abbrev pub withoutEntry : List ℕ → Kind → ℕ → List ℕ
+withoutEntry t kind i = filled t kind i 0 (strideOf kind)
 
 -- ---- searches over the entries of a kind
 
 abbrev pub freeAt : List ℕ → Kind → ℕ → Bool
 freeAt t kind i = isFree (wordOf t kind i 0)
 
--- "A creation takes the lowest free number": from a given one on; not below the count if there is none
+-- the lowest free one from a given one on; not below the count if there is none
 abbrev pub firstFree : List ℕ → Kind → ℕ → ℕ
 firstFree t kind from = firstFrom (freeAt t kind) (countOf kind - from) from
+
+-- "A creation takes the lowest free number"; the count if none is free
+unfoldable pub nextFree : List ℕ → Kind → ℕ
+nextFree t kind = firstFree t kind 0
 
 -- "Every entry is free or well formed", as far as its first word tells
 abbrev pub formed : Kind → ℕ → Bool

@@ -1,28 +1,38 @@
--- Where the entries of a table stand.
+-- Where the entries of a table stand: a row of numbers for each kind, and all else follows from the rows.
 use Prim.Native.Nat.{ℕ, _+_, _*_}
 use Rattle.words.specs.declared.layout.Kind.{Kind}
 use Rattle.words.specs.declared.layout.Kind.the-variants.{Model, SchemaInstance, Instance}
-
--- "Words from 736 on are never read or written."
-abbrev pub words : ℕ
-words = 736
+use Rattle.words.specs.declared.layout.Row.{Row}
 
 -- "Words 0 to 63: model m. Words 64 to 95: schema instance s at 64+2s. Words 96 to 735: instance i at 96+5i."
-abbrev pub baseOf : Kind → ℕ
-baseOf Model = 0
-baseOf SchemaInstance = 64
-baseOf Instance = 96
-
-abbrev pub strideOf : Kind → ℕ
-strideOf Model = 1
-strideOf SchemaInstance = 2
-strideOf Instance = 5
-
 -- "64 models, 16 schema instances, 128 entity instances"
-abbrev pub countOf : Kind → ℕ
-countOf Model = 64
-countOf SchemaInstance = 16
-countOf Instance = 128
+abbrev pub rowOf : Kind → Row
+rowOf Model = record { base = 0; stride = 1; count = 64 }
+rowOf SchemaInstance = record { base = 64; stride = 2; count = 16 }
+rowOf Instance = record { base = 96; stride = 5; count = 128 }
 
+-- the first word of the kind's entry 0
+abbrev pub baseOf : Kind → ℕ
+baseOf kind = rowOf kind .base
+
+-- how many words an entry has
+abbrev pub strideOf : Kind → ℕ
+strideOf kind = rowOf kind .stride
+
+-- how many entries there are
+abbrev pub countOf : Kind → ℕ
+countOf kind = rowOf kind .count
+
+-- the first word of entry i
 abbrev pub placeOf : Kind → ℕ → ℕ
 placeOf kind i = baseOf kind + strideOf kind * i
+
+-- "Words from 736 on are never read or written": the words in use end with the last kind's last entry
+abbrev pub words : ℕ
+words = placeOf Instance (countOf Instance)
+
+-- kinds told apart by a number
+abbrev pub indexOf : Kind → ℕ
+indexOf Model = 0
+indexOf SchemaInstance = 1
+indexOf Instance = 2

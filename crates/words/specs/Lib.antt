@@ -3,6 +3,5 @@ pub mod Sets
 pub mod Fields
 pub mod Entries
 pub mod Copies
-pub mod Search
 pub mod Laws
 pub mod Cases

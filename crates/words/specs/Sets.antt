@@ -4,7 +4,7 @@ use mathlib.Core.Bool.{Bool, cond}
 use mathlib.Core.List.{List}
 use lib.Dec.{eqb, ltb}
 use lib.ListN.{length}
-use Rattle.words.specs.Search.{keptFrom}
+use Rattle.logic.specs.Search.{keptFrom}
 
 -- a word has 64 bits
 abbrev pub bits : ℕ

@@ -2,7 +2,8 @@
 // writing there changes nothing.
 ghost use mathlib.Core.Path.{_≡_};
 ghost use lib.ListN.{getD, set};
-ghost use Rattle.words.specs.Entries.{inEntry, wordOf, withWord, entryOf, withEntry};
+ghost use Rattle.words.specs.Layout.{strideOf};
+ghost use Rattle.words.specs.Entries.{inEntry, wordOf, withWord, filled, withEntry, withoutEntry};
 use crate::layout::Kind;
 use crate::layout::count;
 use crate::layout::place;
@@ -14,6 +15,7 @@ fn get(t: &[u64], at: usize) -> u64
     if at < t.len() { t[at] } else { 0 }
 }
 
+// The one place where a word of a table is written, but for the copy of a whole table.
 fn put(t: &mut [u64], at: usize, w: u64)
     ensures { λ _. ⌜ now (t .exit) ≡ set (now (t .entry)) at w ⌝ }
 {
@@ -48,26 +50,30 @@ pub fn write(t: &mut [u64], kind: Kind, i: u32, k: u32, w: u64)
     }
 }
 
-// A whole entry: one, two or five words, and 0 for those that its kind lacks.
-pub fn read_entry(t: &[u64], kind: Kind, i: u32) -> [u64; 5]
-    ensures { λ r. ⌜ r ≡ entryOf (now (t .entry)) kind i ⌝ }
-{
-    [
-        read(t, kind, i, 0),
-        read(t, kind, i, 1),
-        read(t, kind, i, 2),
-        read(t, kind, i, 3),
-        read(t, kind, i, 4),
-    ]
-}
-
-pub fn write_entry(t: &mut [u64], kind: Kind, i: u32, words: [u64; 5])
-    ensures { λ _. ⌜ now (t .exit) ≡ withEntry (now (t .entry)) kind i words ⌝ }
+// A first word and zeros after it, over the entry's stride.
+fn fill(t: &mut [u64], kind: Kind, i: u32, first: u64)
+    ensures { λ _. ⌜ now (t .exit) ≡ filled (now (t .entry)) kind i first (strideOf kind) ⌝ }
 {
     let n = stride(kind);
+    let mut w = first;
     let mut k = 0;
     while k < n {
-        write(t, kind, i, k as u32, words[k]);
+        write(t, kind, i, k as u32, w);
+        w = 0;
         k += 1;
     }
+}
+
+// Entry i is made.
+pub fn make(t: &mut [u64], kind: Kind, i: u32, first: u64)
+    ensures { λ _. ⌜ now (t .exit) ≡ withEntry (now (t .entry)) kind i first ⌝ }
+{
+    fill(t, kind, i, first);
+}
+
+// Entry i is free again.
+pub fn clear(t: &mut [u64], kind: Kind, i: u32)
+    ensures { λ _. ⌜ now (t .exit) ≡ withoutEntry (now (t .entry)) kind i ⌝ }
+{
+    fill(t, kind, i, 0);
 }

@@ -1,7 +1,6 @@
-// Where the entries of a table stand: words 0 to 63 model m, words 64 to 95 schema instance s at
-// 64+2s, words 96 to 735 instance i at 96+5i. Each number of the layout is named here alone.
+// Where the entries of a table stand: a row of numbers for each kind. Each number of the layout is named here alone.
 ghost use mathlib.Core.Path.{_≡_};
-ghost use Rattle.words.specs.Layout.{baseOf, strideOf, countOf, placeOf};
+ghost use Rattle.words.specs.Layout.{rowOf, baseOf, strideOf, countOf, placeOf};
 
 // The words in use. Words from here on are never read or written.
 pub const WORDS: usize = 736;
@@ -12,37 +11,51 @@ pub enum Kind {
     Instance,
 }
 
-// The first word of the kind's entry 0.
+// The first word of the kind's entry 0, how many words an entry has, and how many entries there are.
+pub struct Row {
+    pub base: usize,
+    pub stride: usize,
+    pub count: u32,
+}
+
+fn row_of(kind: Kind) -> Row
+    ensures { λ r. ⌜ r ≡ rowOf kind ⌝ }
+{
+    match kind {
+        Kind::Model => Row {
+            base: 0,
+            stride: 1,
+            count: 64,
+        },
+        Kind::SchemaInstance => Row {
+            base: 64,
+            stride: 2,
+            count: 16,
+        },
+        Kind::Instance => Row {
+            base: 96,
+            stride: 5,
+            count: 128,
+        },
+    }
+}
+
 pub fn base(kind: Kind) -> usize
     ensures { λ r. ⌜ r ≡ baseOf kind ⌝ }
 {
-    match kind {
-        Kind::Model => 0,
-        Kind::SchemaInstance => 64,
-        Kind::Instance => 96,
-    }
+    row_of(kind).base
 }
 
-// How many words an entry has.
 pub fn stride(kind: Kind) -> usize
     ensures { λ r. ⌜ r ≡ strideOf kind ⌝ }
 {
-    match kind {
-        Kind::Model => 1,
-        Kind::SchemaInstance => 2,
-        Kind::Instance => 5,
-    }
+    row_of(kind).stride
 }
 
-// How many entries there are.
 pub fn count(kind: Kind) -> u32
     ensures { λ r. ⌜ r ≡ countOf kind ⌝ }
 {
-    match kind {
-        Kind::Model => 64,
-        Kind::SchemaInstance => 16,
-        Kind::Instance => 128,
-    }
+    row_of(kind).count
 }
 
 // The first word of entry i.

@@ -1,6 +1,6 @@
 // Searches over all entries of a kind, the last one included.
 ghost use mathlib.Core.Path.{_≡_};
-ghost use Rattle.words.specs.Entries.{firstFree, isTaken};
+ghost use Rattle.words.specs.Entries.{firstFree, nextFree, isTaken};
 use crate::entries::read;
 use crate::fields::is_free;
 use crate::fields::is_named;
@@ -8,7 +8,7 @@ use crate::layout::Kind;
 use crate::layout::count;
 
 // The lowest free entry from a given one on; not below the count if there is none.
-pub fn first_free(t: &[u64], kind: Kind, from: u32) -> u32
+fn first_free(t: &[u64], kind: Kind, from: u32) -> u32
     ensures { λ r. ⌜ r ≡ firstFree (now (t .entry)) kind from ⌝ }
 {
     let n = count(kind);
@@ -20,6 +20,13 @@ pub fn first_free(t: &[u64], kind: Kind, from: u32) -> u32
         i += 1;
     }
     i
+}
+
+// The number that a creation takes; not below the count if there is none.
+pub fn next_free(t: &[u64], kind: Kind) -> u32
+    ensures { λ r. ⌜ r ≡ nextFree (now (t .entry)) kind ⌝ }
+{
+    first_free(t, kind, 0)
 }
 
 // Some entry has this name in this repository.

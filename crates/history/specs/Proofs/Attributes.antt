@@ -8,12 +8,14 @@ use native.Mathlib.Decide.{decLt}
 use native.Mathlib.Omega.{arith}
 use lib.Dec.{eqb}
 use borrow.Author.Tests.{eq-eqb, ne-eqb, le-ltb}
+use Rattle.tables.specs.Laws.Sound.{live-below}
 use Rattle.words.specs.declared.layout.Kind.{Kind}
 use Rattle.words.specs.declared.layout.Kind.the-variants.{Model, SchemaInstance, Instance}
 use Rattle.words.specs.Layout.{countOf}
 use Rattle.words.specs.Fields.{typeIn, modelIn, values, isFree, flagged, withFlag, withoutFlag}
 use Rattle.words.specs.Entries.{wordOf}
-use Rattle.words.specs.Laws.Bools.{and-left, and-ended}
+use Rattle.words.specs.Laws.Layout.{kinds-apart}
+use Rattle.logic.specs.Laws.Bools.{and-left, and-ended, clash}
 use Rattle.words.specs.Laws.Fields.{Alike, header-is-live, type-of-header, model-of-header, alike-with, alike-without, flagged-with, flagged-without}
 use Rattle.dictionary.specs.declared.answers.Attribute.{Attribute}
 use Rattle.dictionary.specs.declared.answers.Attribute.the-variants.{Lacking, Whole, Reference}
@@ -23,12 +25,11 @@ use Rattle.tables.specs.Sound.{soundValue}
 use Rattle.tables.specs.declared.changes.Change.{Change}
 use Rattle.tables.specs.declared.changes.Change.the-variants.{Put, Unset}
 use Rattle.tables.specs.Changes.{apply}
-use Rattle.promises.specs.Keeps.Tests.{clash}
 use Rattle.promises.specs.Keeps.Facts.{SoundTable}
-use Rattle.promises.specs.Keeps.Frame.{same-or-not, live-below, live-not-free, instance-no-group, instance-no-model}
+use Rattle.promises.specs.Keeps.Frame.{same-or-not, live-not-free}
 use Rattle.promises.specs.Keeps.Edited.{Rest}
 use Rattle.promises.specs.Keeps.Written.{written, written-header, written-value, written-others, written-rest}
-use Rattle.history.specs.Live.{deletion, names, undoes}
+use Rattle.history.specs.Live.{names, undoes}
 use Rattle.history.specs.Proofs.Told.{shown, EntryAfter, ValueAfter, same, put, unset, After, shape, not-made, not-joined, not-put, entry-kept, member-kept, value-kept}
 
 -- the type and the model that a header shows
@@ -61,40 +62,40 @@ module _ (t : List ℕ) (h : SoundTable t) (i k : ℕ) (live : isLive t Instance
   header : headerAt (written t i k v h′) i ≡ h′
   header = written-header t i k v h′ here hk (h .long)
 
-  changed-entry : (c : Change) → eqb (shape c) 0 ≡ false → ((kind : Kind) (n first : ℕ) → names (deletion c) kind n first ≡ false)
+  changed-entry : (c : Change) → eqb (shape c) 0 ≡ false → ((kind : Kind) (n first : ℕ) → names c kind n first ≡ false)
       → (kind : Kind) (n : ℕ) → EntryAfter c (wordOf t) (wordOf (written t i k v h′)) kind n
-  changed-entry c p none Model n = entry-kept c _ _ Model n (rest .others Model n 0 (λ e q. instance-no-model e)) (λ first. not-made c p) (λ q. none Model n _)
+  changed-entry c p none Model n = entry-kept c _ _ Model n (rest .others Model n 0 (λ e q. kinds-apart e refl)) (λ first. not-made c p) (λ q. none Model n _)
   changed-entry c p none SchemaInstance n =
-      entry-kept c _ _ SchemaInstance n (rest .others SchemaInstance n 0 (λ e q. instance-no-group e)) (λ first. not-made c p) (λ q. none SchemaInstance n _)
-  changed-entry c p none Instance n = told (same-or-not i n)
+      entry-kept c _ _ SchemaInstance n (rest .others SchemaInstance n 0 (λ e q. kinds-apart e refl)) (λ first. not-made c p) (λ q. none SchemaInstance n _)
+  changed-entry c p none Instance n = by-cases (same-or-not i n)
     where
       live-now : isFree h′ ≡ isFree (headerAt t i)
       live-now =
           let was : isFree (headerAt t i) ≡ false = live-not-free t Instance i live in
           header-is-live h′ (alike .header (h .instances i here .headed was .header)) ∙ sym was
 
-      told : (i ≡ n) ⊎ (i ≡ n → ⊥) → EntryAfter c (wordOf t) (wordOf (written t i k v h′)) Instance n
-      told (inl e) = rw (← e) (same (rw header live-now) (rw (header, alike .types, alike .models)) (λ first. not-made c p) (λ q. none Instance i _))
-      told (inr e) = entry-kept c _ _ Instance n (rest .others Instance n 0 (λ a b. e b)) (λ first. not-made c p) (λ q. none Instance n _)
+      by-cases : (i ≡ n) ⊎ (i ≡ n → ⊥) → EntryAfter c (wordOf t) (wordOf (written t i k v h′)) Instance n
+      by-cases (inl e) = rw (← e) (same (rw header live-now) (rw (header, alike .types, alike .models)) (λ first. not-made c p) (λ q. none Instance i _))
+      by-cases (inr e) = entry-kept c _ _ Instance n (rest .others Instance n 0 (λ a b. e b)) (λ first. not-made c p) (λ q. none Instance n _)
 
   all-flags : (j : ℕ) → (j ≡ k → ⊥) → flagged h′ j ≡ flagged (headerAt t i) j
-  all-flags j apart = told (decLt j values)
+  all-flags j apart = by-cases (decLt j values)
     where
-      told : Dec (j < values) → flagged h′ j ≡ flagged (headerAt t i) j
-      told (yes l) = flags j l apart
-      told (no l) = no-flag-past h′ j (omega arith) ∙ sym (no-flag-past (headerAt t i) j (omega arith))
+      by-cases : Dec (j < values) → flagged h′ j ≡ flagged (headerAt t i) j
+      by-cases (yes l) = flags j l apart
+      by-cases (no l) = no-flag-past h′ j (omega arith) ∙ sym (no-flag-past (headerAt t i) j (omega arith))
 
   -- the other attributes
   others-kept : (c : Change) (n j : ℕ) → (i ≡ n → k ≡ j → ⊥) → ((u : ℕ) → c ≡ Put n j u → ⊥)
       → ((a b u : ℕ) → undoes n j u a b c ≡ false) → ValueAfter c (wordOf t) (wordOf (written t i k v h′)) n j
-  others-kept c n j apart none keeps = told (same-or-not i n)
+  others-kept c n j apart none keeps = by-cases (same-or-not i n)
     where
-      told : (i ≡ n) ⊎ (i ≡ n → ⊥) → ValueAfter c (wordOf t) (wordOf (written t i k v h′)) n j
-      told (inl e) =
+      by-cases : (i ≡ n) ⊎ (i ≡ n → ⊥) → ValueAfter c (wordOf t) (wordOf (written t i k v h′)) n j
+      by-cases (inl e) =
           let other : j ≡ k → ⊥ = λ q. apart e (sym q) in
           rw (← e)
           (same (rw header (all-flags j other)) (written-others t i k v h′ here hk (h .long) j other) (rw (← e) at none) (λ a b q. rw (← e) at (keeps a b (wordOf t Instance i (1 + j)))))
-      told (inr e) = value-kept c _ _ n j (λ l. rest .others Instance n l (λ a b. e b)) none (λ a b q. keeps a b _)
+      by-cases (inr e) = value-kept c _ _ n j (λ l. rest .others Instance n l (λ a b. e b)) none (λ a b q. keeps a b _)
 
 -- ---- put
 
@@ -106,19 +107,19 @@ module _ (t : List ℕ) (h : SoundTable t) (i k : ℕ) (live : isLive t Instance
   flags-without j l apart = flagged-without (headerAt t i) k j hk l ∙ ap (λ (b : Bool). not b && flagged (headerAt t i) j) (ne-eqb j k apart)
 
   apart-test : (n j : ℕ) → (i ≡ n → k ≡ j → ⊥) → (eqb i n && eqb k j) ≡ false
-  apart-test n j apart = told (same-or-not i n)
+  apart-test n j apart = by-cases (same-or-not i n)
     where
-      told : (i ≡ n) ⊎ (i ≡ n → ⊥) → (eqb i n && eqb k j) ≡ false
-      told (inl e) = and-ended (eqb i n) (eqb k j) (ne-eqb k j (apart e))
-      told (inr e) = rw (ne-eqb i n e)
+      by-cases : (i ≡ n) ⊎ (i ≡ n → ⊥) → (eqb i n && eqb k j) ≡ false
+      by-cases (inl e) = and-ended (eqb i n) (eqb k j) (ne-eqb k j (apart e))
+      by-cases (inr e) = rw (ne-eqb i n e)
 
   same-attribute : (n j : ℕ) → ((i ≡ n) × (k ≡ j)) ⊎ (i ≡ n → k ≡ j → ⊥)
-  same-attribute n j = told (same-or-not i n) (same-or-not k j)
+  same-attribute n j = by-cases (same-or-not i n) (same-or-not k j)
     where
-      told : (i ≡ n) ⊎ (i ≡ n → ⊥) → (k ≡ j) ⊎ (k ≡ j → ⊥) → ((i ≡ n) × (k ≡ j)) ⊎ (i ≡ n → k ≡ j → ⊥)
-      told (inl p) (inl q) = inl (p, q)
-      told (inl p) (inr q) = inr (λ a b. q b)
-      told (inr p) q = inr (λ a b. p a)
+      by-cases : (i ≡ n) ⊎ (i ≡ n → ⊥) → (k ≡ j) ⊎ (k ≡ j → ⊥) → ((i ≡ n) × (k ≡ j)) ⊎ (i ≡ n → k ≡ j → ⊥)
+      by-cases (inl p) (inl q) = inl (p, q)
+      by-cases (inl p) (inr q) = inr (λ a b. q b)
+      by-cases (inr p) q = inr (λ a b. p a)
 
   module _ (v : ℕ) (good : soundValue t (attributeOf (typeAt t i) k) true v ≡ true) where
     put-here : ValueAfter (Put i k v) (wordOf t) (wordOf (written t i k v (withFlag (headerAt t i) k))) i k
@@ -132,11 +133,11 @@ module _ (t : List ℕ) (h : SoundTable t) (i k : ℕ) (live : isLive t Instance
         (λ q. record { live = live-not-free t Instance v (reference-live t (attributeOf (typeAt t i) k) v (rw (shown-type (headerAt t i)) at q) good); shows = refl })
 
     put-value : (n j : ℕ) → ValueAfter (Put i k v) (wordOf t) (wordOf (written t i k v (withFlag (headerAt t i) k))) n j
-    put-value n j = told (same-attribute n j)
+    put-value n j = by-cases (same-attribute n j)
       where
-        told : ((i ≡ n) × (k ≡ j)) ⊎ (i ≡ n → k ≡ j → ⊥) → ValueAfter (Put i k v) (wordOf t) (wordOf (written t i k v (withFlag (headerAt t i) k))) n j
-        told (inl p) = rw (← p .0, ← p .1) put-here
-        told (inr apart) =
+        by-cases : ((i ≡ n) × (k ≡ j)) ⊎ (i ≡ n → k ≡ j → ⊥) → ValueAfter (Put i k v) (wordOf t) (wordOf (written t i k v (withFlag (headerAt t i) k))) n j
+        by-cases (inl p) = rw (← p .0, ← p .1) put-here
+        by-cases (inr apart) =
             others-kept t h i k live hk v (withFlag (headerAt t i) k) (alike-with (headerAt t i) k hk) flags-with (Put i k v) n j apart
             (λ u e. apart (cc (e)) (cc (e))) (λ a b u. apart-test n j apart)
 
@@ -144,21 +145,21 @@ module _ (t : List ℕ) (h : SoundTable t) (i k : ℕ) (live : isLive t Instance
     unfolding apply
     put-after = record {
       entries = changed-entry t h i k live hk v (withFlag (headerAt t i) k) (alike-with (headerAt t i) k hk) flags-with (Put i k v) refl (λ kind n first. refl);
-      members = λ s m. member-kept _ _ _ s m (rest t h i k live hk v (withFlag (headerAt t i) k) (alike-with (headerAt t i) k hk) flags-with .others SchemaInstance s 1 (λ e q. instance-no-group e)) (not-joined (Put i k v) refl) (λ q. refl);
+      members = λ s m. member-kept _ _ _ s m (rest t h i k live hk v (withFlag (headerAt t i) k) (alike-with (headerAt t i) k hk) flags-with .others SchemaInstance s 1 (λ e q. kinds-apart e refl)) (not-joined (Put i k v) refl) (λ q. refl);
       attributes = put-value;
     }
 
   -- ---- unset
 
   unset-value : (n j : ℕ) → ValueAfter (Unset i k) (wordOf t) (wordOf (written t i k 0 (withoutFlag (headerAt t i) k))) n j
-  unset-value n j = told (same-attribute n j)
+  unset-value n j = by-cases (same-attribute n j)
     where
-      told : ((i ≡ n) × (k ≡ j)) ⊎ (i ≡ n → k ≡ j → ⊥) → ValueAfter (Unset i k) (wordOf t) (wordOf (written t i k 0 (withoutFlag (headerAt t i) k))) n j
-      told (inl p) =
+      by-cases : ((i ≡ n) × (k ≡ j)) ⊎ (i ≡ n → k ≡ j → ⊥) → ValueAfter (Unset i k) (wordOf t) (wordOf (written t i k 0 (withoutFlag (headerAt t i) k))) n j
+      by-cases (inl p) =
           rw (← p .0, ← p .1)
           (unset (rw (written-header t i k 0 (withoutFlag (headerAt t i) k) (live-below t Instance i live) hk (h .long), flagged-without (headerAt t i) k k hk hk, eq-eqb k k refl))
           (λ u. not-put (Unset i k) refl) (λ a b q. rw (eq-eqb i i refl, eq-eqb k k refl)))
-      told (inr apart) =
+      by-cases (inr apart) =
           others-kept t h i k live hk 0 (withoutFlag (headerAt t i) k) (alike-without (headerAt t i) k hk) flags-without (Unset i k) n j apart
           (λ u. not-put (Unset i k) refl) (λ a b u. apart-test n j apart)
 
@@ -166,6 +167,6 @@ module _ (t : List ℕ) (h : SoundTable t) (i k : ℕ) (live : isLive t Instance
   unfolding apply
   unset-after = record {
     entries = changed-entry t h i k live hk 0 (withoutFlag (headerAt t i) k) (alike-without (headerAt t i) k hk) flags-without (Unset i k) refl (λ kind n first. refl);
-    members = λ s m. member-kept _ _ _ s m (rest t h i k live hk 0 (withoutFlag (headerAt t i) k) (alike-without (headerAt t i) k hk) flags-without .others SchemaInstance s 1 (λ e q. instance-no-group e)) (not-joined (Unset i k) refl) (λ q. refl);
+    members = λ s m. member-kept _ _ _ s m (rest t h i k live hk 0 (withoutFlag (headerAt t i) k) (alike-without (headerAt t i) k hk) flags-without .others SchemaInstance s 1 (λ e q. kinds-apart e refl)) (not-joined (Unset i k) refl) (λ q. refl);
     attributes = unset-value;
   }

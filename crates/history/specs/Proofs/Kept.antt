@@ -1,36 +1,30 @@
 -- The working table tells what remains, and the kept one what would remain of a drop.
-use Prim.Native.Nat.{ℕ, _+_}
+use Prim.Native.Nat.{ℕ}
 use mathlib.Core.Path.{_≡_, refl, ap, subst}
-use mathlib.Core.Bool.{Bool, true, false, cond}
 use mathlib.Core.List.{List, [], _∷_}
 use native.Mathlib.Omega.{arith}
-use lib.ListN.{getD}
 use borrow.Author.Tests.{ne-eqb}
-use Rattle.words.specs.declared.layout.Kind.{Kind}
+use Rattle.logic.specs.Laws.Bools.{clash}
 use Rattle.words.specs.declared.layout.Kind.the-variants.{SchemaInstance, Instance}
-use Rattle.words.specs.Layout.{placeOf}
 use Rattle.words.specs.Sets.{none, has}
 use Rattle.words.specs.Fields.{isFree, flagged}
-use Rattle.words.specs.Entries.{inEntry, wordOf}
+use Rattle.words.specs.Entries.{wordOf}
 use Rattle.words.specs.Laws.Sets.{has-none}
-use Rattle.words.specs.Laws.Entries.{entry-in-use}
 use Rattle.words.specs.Laws.Copies.{Agreeing, agree-entries}
 use Rattle.tables.specs.declared.changes.Change.{Change}
 use Rattle.session.specs.declared.effects.Tables.{Tables}
 use Rattle.session.specs.Refusals.{done}
 use Rattle.session.specs.Operations.{operationOf}
-use Rattle.session.specs.Sound.{sound}
 use Rattle.session.specs.Effects.{workingAfter, keptAfter}
 use Rattle.session.specs.Step.{Outcome}
-use Rattle.promises.specs.Fresh.{Empty, fresh-sound}
-use Rattle.promises.specs.Stays.{soundness-stays}
-use Rattle.promises.specs.Keeps.Tests.{clash}
+use Rattle.session.specs.Runs.{Call, Answered, Chip, Empty, Fresh, left, answeredBy, afterBy, historyBy, outcomeOf, after, history}
+use Rattle.promises.specs.Fresh.{no-word}
+use Rattle.promises.specs.Reached.{SoundChip, reached-sound}
 use Rattle.promises.specs.Keeps.Range.{Refusing, passed}
 use Rattle.promises.specs.Keeps.Ways.{Way, unsound, refusing, doing, way}
 use Rattle.promises.specs.Keeps.Facts.{SoundTable}
 use Rattle.promises.specs.Keeps.SessionFacts.{Sound, sound-test}
 use Rattle.promises.specs.Keeps.Copied.{copy-agrees, turned}
-use Rattle.history.specs.Runs.{Call, Chip, Fresh, Answered, outcomeOf, left, after, history}
 use Rattle.history.specs.Remains.{Said, silent, changes, commits, drops, said, Fate, pending, committed, dropped, further, remainingIf}
 use Rattle.history.specs.Live.{Live, Member, SetTo}
 use Rattle.history.specs.Proofs.Since.{since-nothing}
@@ -76,61 +70,42 @@ module _ (w k : List ℕ) (hw : SoundTable w) (hk : SoundTable k) (h : List Answ
   spoken s tables (drop-clean e) = record { working = agree-told k w _ (turned w k e) tk; kept = tk }
 
 pub record Holds (chip : Chip) (h : List Answered) : Type 0 where
-  pub sound : sound (chip .session) (chip .working) (chip .kept) ≡ true
   pub working : Told (wordOf (chip .working)) (remainingIf h pending)
   pub kept : Told (wordOf (chip .kept)) (remainingIf h dropped)
 
-abbrev answeredBy : Call → Outcome → Answered
-answeredBy q o = record { call = q; refusal = o .answer .refusal; value = o .answer .value }
-
-module _ (q : Call) (chip : Chip) (h : List Answered) (w : Holds chip h) where
+module _ (q : Call) (chip : Chip) (h : List Answered) (good : SoundChip chip) (w : Holds chip h) where
   silenced : (r value : ℕ) → Refusing r → said (record { call = q; refusal = r; value = value }) ≡ silent
   silenced r value f = rw (ne-eqb r done (λ e. omega arith))
 
-  went : (o : Outcome) → Way (q .op) (q .a) (q .b) (q .c) (chip .session) (chip .working) (chip .kept) o
+  by-way : (o : Outcome) → Way (q .op) (q .a) (q .b) (q .c) (chip .session) (chip .working) (chip .kept) o
       → Both (o .working) (o .kept) (said (answeredBy q o)) h
-  went o (unsound u) = clash _ (w .sound) u
-  went o (refusing r s f) = rw (silenced r 0 f) (record { working = w .working; kept = w .kept })
-  went o (doing s p e) =
-      let good : Sound (chip .session) (chip .working) (chip .kept) = sound-test (chip .session) (chip .working) (chip .kept) .holds s in
-      spoken (chip .working) (chip .kept) (good .tables .working) (good .tables .kept) h (w .working) (w .kept) _ _
-      (speaks (q .a) (q .b) (q .c) (chip .session) (chip .working) (chip .kept) good (q .small) (operationOf (q .op))
+  by-way o (unsound u) = clash _ good u
+  by-way o (refusing r s f) = rw (silenced r 0 f) (record { working = w .working; kept = w .kept })
+  by-way o (doing s p e) =
+      let facts : Sound (chip .session) (chip .working) (chip .kept) = sound-test (chip .session) (chip .working) (chip .kept) .holds good in
+      spoken (chip .working) (chip .kept) (facts .tables .working) (facts .tables .kept) h (w .working) (w .kept) _ _
+      (speaks (q .a) (q .b) (q .c) (chip .session) (chip .working) (chip .kept) facts (q .small) (operationOf (q .op))
       (passed (operationOf (q .op)) (q .a) (q .b) (q .c) (chip .session .state) (chip .working) p) e)
 
   called : Holds (left (outcomeOf chip q)) (answeredBy q (outcomeOf chip q) ∷ h)
   unfolding remainingIf
   called =
-      let b = went (outcomeOf chip q) (way (q .op) (q .a) (q .b) (q .c) (chip .session) (chip .working) (chip .kept)) in
-      record {
-        sound = soundness-stays (q .op) (q .a) (q .b) (q .c) (chip .session) (chip .working) (chip .kept) (q .small) (w .sound);
-        working = b .working;
-        kept = b .kept;
-      }
+      let b = by-way (outcomeOf chip q) (way (q .op) (q .a) (q .b) (q .c) (chip .session) (chip .working) (chip .kept)) in
+      record { working = b .working; kept = b .kept }
 
 -- ---- from fresh
 
 module _ (t : List ℕ) (h : Empty t) where
-  no-word : (kind : Kind) (i k : ℕ) → wordOf t kind i k ≡ 0
-  no-word kind i k = told (inEntry kind i k) refl
-    where
-      told : (b : Bool) → inEntry kind i k ≡ b → cond b (getD t (placeOf kind i + k) 0) 0 ≡ 0
-      told true e = h .zeros (placeOf kind i + k) (entry-in-use kind i k e)
-      told false e = refl
-
   empty-told : Told (wordOf t) []
   unfolding Live Member SetTo
   empty-told = record {
-    entries = λ kind n first. ((λ s. absurd (since-nothing s)), (λ w. clash (isFree 0) refl (rw (no-word kind n 0) at (w .live))));
-    members = λ s m. ((λ x. absurd (since-nothing x)), (λ w. clash (has none m) (rw (no-word SchemaInstance s 1) at w) (has-none m)));
-    attributes = λ i k v. ((λ x. absurd (since-nothing (x .2))), (λ w. clash (flagged 0 k) (rw (no-word Instance i 0) at (w .set)) (no-flag-free k)));
+    entries = λ kind n first. ((λ s. absurd (since-nothing s)), (λ w. clash (isFree 0) refl (rw (no-word t h kind n 0) at (w .live))));
+    members = λ s m. ((λ x. absurd (since-nothing x)), (λ w. clash (has none m) (rw (no-word t h SchemaInstance s 1) at w) (has-none m)));
+    attributes = λ i k v. ((λ x. absurd (since-nothing (x .2))), (λ w. clash (flagged 0 k) (rw (no-word t h Instance i 0) at (w .set)) (no-flag-free k)));
   }
 
 module _ (begun : Chip) (fresh : Fresh begun) where
   pub holds : (calls : List Call) → Holds (after begun calls) (history begun calls)
-  unfolding after history remainingIf
-  holds [] = record {
-    sound = rw (fresh .session) (fresh-sound (begun .working) (begun .kept) (fresh .working) (fresh .kept));
-    working = empty-told (begun .working) (fresh .working);
-    kept = empty-told (begun .kept) (fresh .kept);
-  }
-  holds (q ∷ calls) = called q (after begun calls) (history begun calls) (holds calls)
+  unfolding afterBy historyBy remainingIf
+  holds [] = record { working = empty-told (begun .working) (fresh .working); kept = empty-told (begun .kept) (fresh .kept) }
+  holds (q ∷ calls) = called q (after begun calls) (history begun calls) (reached-sound begun fresh calls) (holds calls)

@@ -1,7 +1,7 @@
 -- Room for a creation, by what the words tell.
 use Prim.Native.Nat.{ℕ, _≤_, _<_}
 use mathlib.Core.Path.{_≡_, refl, ap, sym, _∙_}
-use mathlib.Core.Bool.{Bool, true, false}
+use mathlib.Core.Bool.{Bool, true, false, or-false}
 use mathlib.Core.Logic.{_↔_, ⊎-elim}
 use mathlib.Core.List.{List, _∷_}
 use native.Mathlib.Decide.{decLt}
@@ -12,10 +12,10 @@ use Rattle.words.specs.declared.layout.Kind.{Kind}
 use Rattle.words.specs.declared.layout.Kind.the-variants.{Model, SchemaInstance, Instance}
 use Rattle.words.specs.Layout.{countOf}
 use Rattle.words.specs.Fields.{labelOf, headerOf}
-use Rattle.words.specs.Entries.{wordOf, freeAt, firstFree}
-use Rattle.words.specs.Laws.Entries.{free-within, free-found, free-nowhere, free-not-missed}
+use Rattle.words.specs.Entries.{wordOf, freeAt, nextFree}
+use Rattle.words.specs.Laws.Entries.{next-is-free, next-found, next-nowhere}
 use Rattle.tables.specs.declared.changes.Change.{Change}
-use Rattle.tables.specs.declared.changes.Change.the-variants.{Dissolved, Deleted, Removed}
+use Rattle.tables.specs.declared.changes.Change.the-variants.{Gone}
 use Rattle.session.specs.declared.operations.Operation.the-variants as operation
 use Rattle.session.specs.declared.state.State.{State}
 use Rattle.session.specs.declared.state.Session.{Session}
@@ -23,17 +23,17 @@ use Rattle.session.specs.declared.effects.Effect.{Effect}
 use Rattle.session.specs.Refusals.{NO-ROOM, done}
 use Rattle.session.specs.Operations.{operationOf}
 use Rattle.session.specs.Sound.{sound}
-use Rattle.session.specs.Checks.{refusalOf}
-use Rattle.session.specs.Effects.{effect, created}
+use Rattle.session.specs.Effects.{created}
+use Rattle.session.specs.Rows.{refusalOf, effect}
 use Rattle.session.specs.Step.{Outcome, finished, core, step}
 use Rattle.promises.specs.Core.{core-on-sound}
-use Rattle.promises.specs.Keeps.Tests.{clash}
+use Rattle.logic.specs.Laws.Bools.{clash}
 use Rattle.promises.specs.Keeps.Frame.{same-or-not}
-use Rattle.history.specs.Live.{still, Live, Full, deletion, names}
+use Rattle.history.specs.Live.{still, Live, Full, names}
 use Rattle.history.specs.Remains.{saying, changes}
 use Rattle.history.specs.Demand3.{creationOf, deletionOf}
 use Rattle.history.specs.Proofs.Since.{since-cases}
-use Rattle.history.specs.Proofs.Told.{shown, Told, not-made, shape}
+use Rattle.history.specs.Proofs.Told.{shown, Told, not-made}
 
 -- ---- a call that passes its checks is answered as its effect says
 
@@ -43,10 +43,10 @@ module _ (op a b c : ℕ) (x : Session) (w k : List ℕ) (s : sound x w k ≡ tr
   goes-on = core-on-sound op a b c x w k s ∙ rw p
 
   pub refusal-told : step op a b c x w k .answer .refusal ≡ effect (operationOf op) a b c (x .state) w .refusal
-  refusal-told = ap (λ (o : Outcome). o .answer .refusal) goes-on ∙ told (effect (operationOf op) a b c (x .state) w)
+  refusal-told = ap (λ (o : Outcome). o .answer .refusal) goes-on ∙ by-cases (effect (operationOf op) a b c (x .state) w)
     where
-      told : (e : Effect) → finished op x w k e .answer .refusal ≡ e .refusal
-      told e = ⊎-elim (λ z. rw (eq-eqb (e .refusal) done z) (sym z)) (λ z. rw (ne-eqb (e .refusal) done z)) (same-or-not (e .refusal) done)
+      by-cases : (e : Effect) → finished op x w k e .answer .refusal ≡ e .refusal
+      by-cases e = ⊎-elim (λ z. rw (eq-eqb (e .refusal) done z) (sym z)) (λ z. rw (ne-eqb (e .refusal) done z)) (same-or-not (e .refusal) done)
 
   pub value-told : effect (operationOf op) a b c (x .state) w .refusal ≡ done
       → step op a b c x w k .answer .value ≡ effect (operationOf op) a b c (x .state) w .value
@@ -65,13 +65,13 @@ creation-told SchemaInstance a b c s w = refl
 creation-told Instance a b c s w = refl
 
 module _ (kind : Kind) (first : ℕ) (s : State) (w : List ℕ) where
-  pub has-room : firstFree w kind 0 < countOf kind → created kind first s w .refusal ≡ done
+  pub has-room : nextFree w kind < countOf kind → created kind first s w .refusal ≡ done
   has-room l = rw (lt-ltb _ _ l)
 
-  pub takes-free : firstFree w kind 0 < countOf kind → created kind first s w .value ≡ firstFree w kind 0
+  pub takes-free : nextFree w kind < countOf kind → created kind first s w .value ≡ nextFree w kind
   takes-free l = rw (lt-ltb _ _ l)
 
-  pub wants-room : countOf kind ≤ firstFree w kind 0 → created kind first s w .refusal ≡ NO-ROOM
+  pub wants-room : countOf kind ≤ nextFree w kind → created kind first s w .refusal ≡ NO-ROOM
   wants-room l = rw (le-ltb _ _ l)
 
   -- NO_ROOM exactly if every place is live by the history
@@ -80,54 +80,42 @@ module _ (kind : Kind) (first : ℕ) (s : State) (w : List ℕ) where
   room-told r t = (filled, refused)
     where
       filled : created kind first s w .refusal ≡ NO-ROOM → (n : ℕ) → n < countOf kind → (label : ℕ) × Live kind n label r
-      filled e n l = told (decLt (firstFree w kind 0) (countOf kind))
+      filled e n l = by-cases (decLt (nextFree w kind) (countOf kind))
         where
-          told : Dec (firstFree w kind 0 < countOf kind) → (label : ℕ) × Live kind n label r
-          told (yes m) = absurd (omega (arith, sym e ∙ has-room m))
-          told (no m) =
-              let all : firstFree w kind 0 ≡ countOf kind = omega (arith, free-within w kind 0 (omega arith)) in
-              (shown kind (wordOf w kind n 0), t .entries kind n _ .1 (record { live = free-nowhere w kind 0 (omega arith) all n (omega arith) l; shows = refl }))
+          by-cases : Dec (nextFree w kind < countOf kind) → (label : ℕ) × Live kind n label r
+          by-cases (yes m) = absurd (omega (arith, sym e ∙ has-room m))
+          by-cases (no m) = (shown kind (wordOf w kind n 0), t .entries kind n _ .1 (record { live = next-nowhere w kind (omega arith) n l; shows = refl }))
 
       refused : ((n : ℕ) → n < countOf kind → (label : ℕ) × Live kind n label r) → created kind first s w .refusal ≡ NO-ROOM
-      refused f = told (decLt (firstFree w kind 0) (countOf kind))
+      refused f = by-cases (decLt (nextFree w kind) (countOf kind))
         where
-          told : Dec (firstFree w kind 0 < countOf kind) → created kind first s w .refusal ≡ NO-ROOM
-          told (yes m) =
-              let x = f (firstFree w kind 0) m in
-              clash _ (free-found w kind 0 (omega arith) m) (t .entries kind (firstFree w kind 0) (x .0) .0 (x .1) .live)
-          told (no m) = wants-room (omega arith)
+          by-cases : Dec (nextFree w kind < countOf kind) → created kind first s w .refusal ≡ NO-ROOM
+          by-cases (yes m) =
+              let x = f (nextFree w kind) m in
+              clash _ (next-is-free w kind m) (t .entries kind (nextFree w kind) (x .0) .0 (x .1) .live)
+          by-cases (no m) = wants-room (omega arith)
 
 -- ---- one place of a full table made free
 
-abbrev pub deleting : Kind → ℕ → Change
-deleting Model n = Removed n
-deleting SchemaInstance n = Dissolved n
-deleting Instance n = Deleted n
-
-deletes-one : (kind : Kind) (n j first : ℕ) → names (deletion (deleting kind n)) kind j first ≡ eqb n j
+deletes-one : (kind : Kind) (n j first : ℕ) → names (Gone kind n) kind j first ≡ eqb n j
 deletes-one Model n j first = refl
 deletes-one SchemaInstance n j first = refl
-deletes-one Instance n j first = refl
+deletes-one Instance n j first = or-false (eqb n j)
 
-makes-none : (kind : Kind) (n : ℕ) → eqb (shape (deleting kind n)) 0 ≡ false
-makes-none Model n = refl
-makes-none SchemaInstance n = refl
-makes-none Instance n = refl
-
-pub saying-deletion : (kind : Kind) (a b c value : ℕ) → saying (deletionOf kind) a b c value ≡ changes (deleting kind a)
+pub saying-deletion : (kind : Kind) (a b c value : ℕ) → saying (deletionOf kind) a b c value ≡ changes (Gone kind a)
 saying-deletion Model a b c value = refl
 saying-deletion SchemaInstance a b c value = refl
 saying-deletion Instance a b c value = refl
 
-module _ (kind : Kind) (n : ℕ) (l : n < countOf kind) (w : List ℕ) (r : List Change) (t : Told (wordOf w) (deleting kind n ∷ r)) (f : Full kind r) where
+module _ (kind : Kind) (n : ℕ) (l : n < countOf kind) (w : List ℕ) (r : List Change) (t : Told (wordOf w) (Gone kind n ∷ r)) (f : Full kind r) where
   free-here : freeAt w kind n ≡ true
   unfolding Live
-  free-here = told (freeAt w kind n) refl
+  free-here = by-cases (freeAt w kind n) refl
     where
-      told : (b : Bool) → freeAt w kind n ≡ b → b ≡ true
-      told true e = refl
-      told false e =
-          ⊎-elim (λ p. absurd (not-made (deleting kind n) (makes-none kind n) p))
+      by-cases : (b : Bool) → freeAt w kind n ≡ b → b ≡ true
+      by-cases true e = refl
+      by-cases false e =
+          ⊎-elim (λ p. absurd (not-made (Gone kind n) refl p))
           (λ p. clash _ (deletes-one kind n n (shown kind (wordOf w kind n 0)) ∙ eq-eqb n n refl) (p .1))
           (since-cases (t .entries kind n (shown kind (wordOf w kind n 0)) .1 (record { live = e; shows = refl })))
 
@@ -137,8 +125,7 @@ module _ (kind : Kind) (n : ℕ) (l : n < countOf kind) (w : List ℕ) (r : List
       let x = f j m in
       t .entries kind j (x .0) .0 (still (x .1) (deletes-one kind n j (x .0) ∙ ne-eqb n j apart)) .live
 
-  pub freed-found : firstFree w kind 0 ≡ n
+  pub freed-found : nextFree w kind ≡ n
   freed-found =
-      let low : firstFree w kind 0 ≤ n = free-not-missed w kind 0 (omega arith) n (omega arith) l free-here in
-      let below : firstFree w kind 0 < countOf kind = omega arith in
-      ⊎-elim (λ e. sym e) (λ apart. clash _ (free-found w kind 0 (omega arith) below) (live-there (firstFree w kind 0) below apart)) (same-or-not n (firstFree w kind 0))
+      let below : nextFree w kind < countOf kind = next-found w kind n l free-here in
+      ⊎-elim (λ e. sym e) (λ apart. clash _ (next-is-free w kind below) (live-there (nextFree w kind) below apart)) (same-or-not n (nextFree w kind))

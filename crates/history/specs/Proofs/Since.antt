@@ -4,13 +4,11 @@ use mathlib.Core.Path.{_≡_, refl, ap}
 use mathlib.Core.Bool.{Bool, true, false, _||_, _&&_}
 use mathlib.Core.Logic.{_⊎_, inl, inr}
 use mathlib.Core.List.{List, [], _∷_}
-use lib.Dec.{eqb}
 use Rattle.words.specs.declared.layout.Kind.the-variants.{Instance}
-use Rattle.words.specs.Fields.{modelIn}
 use Rattle.tables.specs.declared.changes.Change.{Change}
-use Rattle.tables.specs.declared.changes.Change.the-variants.{Made, Dissolved, Joined, Left, Put, Unset, Deleted, Removed}
-use Rattle.promises.specs.Keeps.Tests.{clash}
-use Rattle.history.specs.Live.{Since, now, still, Live, deletion, names, refersBy, undoes, Puts}
+use Rattle.tables.specs.declared.changes.Change.the-variants.{Made, Gone, Joined, Left, Put, Unset}
+use Rattle.logic.specs.Laws.Bools.{clash}
+use Rattle.history.specs.Live.{Since, now, still, Live, deletes, names, refersBy, undoes, Puts}
 
 -- the two ways in which it can hold after one more change
 pub since-cases : {P : Change → List Change → Type 0} {Q : Change → Bool} {c : Change} {r : List Change}
@@ -46,33 +44,30 @@ and-second false b h e = clash _ e refl
 
 -- what does not undo a put deletes neither its instance nor, for R, the one that it names
 module _ (i k v header target : ℕ) where
-  own-stays : (c : Change) → undoes i k v header target c ≡ false → names (deletion c) Instance i header ≡ false
+  own-stays : (c : Change) → undoes i k v header target c ≡ false → names c Instance i header ≡ false
   own-stays (Made kind n first) q = refl
-  own-stays (Dissolved s) q = refl
+  own-stays (Gone kind n) q = or-first (deletes kind n Instance i header) _ q
   own-stays (Joined s m) q = refl
   own-stays (Left s m) q = refl
   own-stays (Put j l u) q = refl
   own-stays (Unset j l) q = refl
-  own-stays (Deleted j) q = or-first (eqb j i) _ q
-  own-stays (Removed m) q = or-first (eqb m (modelIn header)) _ q
 
-  named-stays : (c : Change) → undoes i k v header target c ≡ false → refersBy header k ≡ true → names (deletion c) Instance v target ≡ false
+  named-stays : (c : Change) → undoes i k v header target c ≡ false → refersBy header k ≡ true → names c Instance v target ≡ false
   named-stays (Made kind n first) q e = refl
-  named-stays (Dissolved s) q e = refl
+  named-stays (Gone kind n) q e =
+      and-second (refersBy header k) (deletes kind n Instance v target) (or-second (deletes kind n Instance i header) _ q) e
   named-stays (Joined s m) q e = refl
   named-stays (Left s m) q e = refl
   named-stays (Put j l u) q e = refl
   named-stays (Unset j l) q e = refl
-  named-stays (Deleted j) q e = and-second (refersBy header k) (eqb j v) (or-second (eqb j i) _ q) e
-  named-stays (Removed m) q e = and-second (refersBy header k) (eqb m (modelIn target)) (or-second (eqb m (modelIn header)) _ q) e
 
   -- **While an attribute is set, its instance lives as it was at the put, and for R so does the one that it names.**
   pub own-lives : {r : List Change} → Since (Puts i k v header target) (undoes i k v header target) r → Live Instance i header r
   unfolding Live
-  own-lives (now {c} p) = still (p .instance) (ap (λ (x : Change). names (deletion x) Instance i header) (p .put))
+  own-lives (now {c} p) = still (p .instance) (ap (λ (x : Change). names x Instance i header) (p .put))
   own-lives (still {c} s q) = still (own-lives s) (own-stays c q)
 
   pub named-lives : {r : List Change} → Since (Puts i k v header target) (undoes i k v header target) r → refersBy header k ≡ true → Live Instance v target r
   unfolding Live
-  named-lives (now {c} p) e = still (p .referred e) (ap (λ (x : Change). names (deletion x) Instance v target) (p .put))
+  named-lives (now {c} p) e = still (p .referred e) (ap (λ (x : Change). names x Instance v target) (p .put))
   named-lives (still {c} s q) e = still (named-lives s e) (named-stays c q e)

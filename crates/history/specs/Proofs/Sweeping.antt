@@ -10,14 +10,14 @@ use borrow.Author.Tests.{ne-eqb}
 use Rattle.words.specs.declared.layout.Kind.the-variants.{Instance}
 use Rattle.words.specs.Layout.{words, countOf}
 use Rattle.words.specs.Fields.{values, flagged, withoutFlag}
-use Rattle.words.specs.Entries.{wordOf}
+use Rattle.words.specs.Entries.{wordOf, withoutEntry}
 use Rattle.words.specs.Laws.Fields.{flagged-without}
 use Rattle.tables.specs.View.{headerAt}
-use Rattle.tables.specs.References.{refers}
-use Rattle.tables.specs.Changes.{withFirst, withoutValue, detached, swept}
-use Rattle.promises.specs.Keeps.Tests.{clash}
+use Rattle.tables.specs.Edits.{withoutValue}
+use Rattle.tables.specs.Deletions.{refers, detached, swept}
+use Rattle.logic.specs.Laws.Bools.{clash}
 use Rattle.promises.specs.Keeps.Frame.{same-or-not}
-use Rattle.promises.specs.Keeps.Edited.{words-rest}
+use Rattle.promises.specs.Keeps.Edited.{entry-rest}
 use Rattle.promises.specs.Keeps.Written.{written-header, written-others}
 use Rattle.promises.specs.Keeps.Swept.{Same, Detached, detaches, Sweep, sweeps}
 
@@ -33,7 +33,7 @@ module _ (goes : ℕ → Bool) (i : ℕ) (here : i < countOf Instance) (t : List
       → refers t goes i k ≡ false → Same (wordOf t Instance i) (wordOf before Instance i) k
       → (b : Bool) → refers before goes i n ≡ b → Same (wordOf t Instance i) (wordOf (cond b (withoutValue before i n) before) Instance i) k
   keeps-more before n k hn hk d none w false e = w
-  keeps-more before n k hn hk d none w true e = told (same-or-not k n)
+  keeps-more before n k hn hk d none w true e = by-cases (same-or-not k n)
     where
       long-before : words ≤ length before
       long-before = omega (arith, d .rest .long)
@@ -41,9 +41,9 @@ module _ (goes : ℕ → Bool) (i : ℕ) (here : i < countOf Instance) (t : List
       as-before : refers before goes i n ≡ refers t goes i n
       as-before = rw (d .rid .alike .types, d .rid .later n (omega arith) hn .flag, d .rid .later n (omega arith) hn .value)
 
-      told : (k ≡ n) ⊎ (k ≡ n → ⊥) → Same (wordOf t Instance i) (wordOf (withoutValue before i n) Instance i) k
-      told (inl p) = clash (refers t goes i n) (sym as-before ∙ e) (rw p at none)
-      told (inr p) =
+      by-cases : (k ≡ n) ⊎ (k ≡ n → ⊥) → Same (wordOf t Instance i) (wordOf (withoutValue before i n) Instance i) k
+      by-cases (inl p) = clash (refers t goes i n) (sym as-before ∙ e) (rw p at none)
+      by-cases (inr p) =
           same-then _ _ _ k w
           (record {
             flag = rw (written-header before i n 0 (withoutFlag (headerAt before i) n) here hn long-before, flagged-without (headerAt before i) n k hn hk, ne-eqb k n p);
@@ -62,8 +62,8 @@ module _ (goes : ℕ → Bool) (t : List ℕ) (long : words ≤ length t) where
   -- one instance more is swept
   swept-more : (before : List ℕ) (n : ℕ) → n < countOf Instance → Sweep goes n t before → (j : ℕ) → j < suc n → goes j ≡ false
       → (k : ℕ) → k < values → refers t goes j k ≡ false → (j < n → Same (wordOf t Instance j) (wordOf before Instance j) k)
-      → (b : Bool) → goes n ≡ b → Same (wordOf t Instance j) (wordOf (cond b (withFirst before Instance n 0) (detached before goes n values)) Instance j) k
-  swept-more before n hn w j l stay k hk none earlier b g = told (same-or-not j n) b g
+      → (b : Bool) → goes n ≡ b → Same (wordOf t Instance j) (wordOf (cond b (withoutEntry before Instance n) (detached before goes n values)) Instance j) k
+  swept-more before n hn w j l stay k hk none earlier b g = by-cases (same-or-not j n) b g
     where
       long-before : words ≤ length before
       long-before = omega (arith, w .long)
@@ -71,16 +71,16 @@ module _ (goes : ℕ → Bool) (t : List ℕ) (long : words ≤ length t) where
       as-before : (i : ℕ) → wordOf before Instance n i ≡ wordOf t Instance n i
       as-before i = w .others Instance n i (λ e l. omega arith)
 
-      told : (j ≡ n) ⊎ (j ≡ n → ⊥) → (b : Bool) → goes n ≡ b
-          → Same (wordOf t Instance j) (wordOf (cond b (withFirst before Instance n 0) (detached before goes n values)) Instance j) k
-      told (inl p) true g = clash (goes n) g (rw p at stay)
-      told (inl p) false g =
+      by-cases : (j ≡ n) ⊎ (j ≡ n → ⊥) → (b : Bool) → goes n ≡ b
+          → Same (wordOf t Instance j) (wordOf (cond b (withoutEntry before Instance n) (detached before goes n values)) Instance j) k
+      by-cases (inl p) true g = clash (goes n) g (rw p at stay)
+      by-cases (inl p) false g =
           rw p
           (same-then _ _ _ k (same-words _ _ k as-before)
           (detached-keeps goes n hn before long-before values (omega arith) k hk (rw (as-before 0, as-before (1 + k)) (rw p at none))))
-      told (inr p) true g =
-          same-then _ _ _ k (earlier (omega arith)) (same-words _ _ k (λ i. words-rest before Instance n _ 5 .others Instance j i (λ e q. p (sym q))))
-      told (inr p) false g =
+      by-cases (inr p) true g =
+          same-then _ _ _ k (earlier (omega arith)) (same-words _ _ k (λ i. entry-rest before Instance n _ .others Instance j i (λ e q. p (sym q))))
+      by-cases (inr p) false g =
           let d : Detached goes n hn before (detached before goes n values) values = detaches goes n hn before values (omega arith) long-before in
           same-then _ _ _ k (earlier (omega arith)) (same-words _ _ k (λ i. d .rest .others Instance j i (λ e q. p (sym q))))
 

@@ -12,9 +12,9 @@ use Rattle.words.specs.Sets.{has}
 use Rattle.words.specs.Fields.{headerOf, typeIn, modelIn, isFree, flagged}
 use Rattle.words.specs.Entries.{wordOf}
 use Rattle.tables.specs.declared.changes.Change.{Change}
-use Rattle.tables.specs.declared.changes.Change.the-variants.{Made, Dissolved, Joined, Left, Put, Unset, Deleted, Removed}
-use Rattle.promises.specs.Keeps.Tests.{clash}
-use Rattle.history.specs.Live.{Since, now, still, Live, Member, SetTo, deletion, names, parts, refersBy, undoes, Puts}
+use Rattle.tables.specs.declared.changes.Change.the-variants.{Made, Gone, Joined, Left, Put, Unset}
+use Rattle.logic.specs.Laws.Bools.{clash}
+use Rattle.history.specs.Live.{Since, now, still, Live, Member, SetTo, names, parts, refersBy, undoes, Puts}
 use Rattle.history.specs.Proofs.Since.{since-cases, own-lives, named-lives}
 use Rattle.history.specs.Demand3.{Tells}
 
@@ -70,10 +70,10 @@ tells-of t r h = record {
 pub data EntryAfter (c : Change) (e e′ : Words) (kind : Kind) (n : ℕ) : Type 0 where
   same : isFree (e′ kind n 0) ≡ isFree (e kind n 0) → shown kind (e′ kind n 0) ≡ shown kind (e kind n 0)
       → ((first : ℕ) → c ≡ Made kind n first → ⊥)
-      → (isFree (e kind n 0) ≡ false → names (deletion c) kind n (shown kind (e kind n 0)) ≡ false) → EntryAfter c e e′ kind n
+      → (isFree (e kind n 0) ≡ false → names c kind n (shown kind (e kind n 0)) ≡ false) → EntryAfter c e e′ kind n
   made : (first : ℕ) → c ≡ Made kind n first → Entry e′ kind n first → isFree (e kind n 0) ≡ true → EntryAfter c e e′ kind n
   gone : isFree (e′ kind n 0) ≡ true → ((first : ℕ) → c ≡ Made kind n first → ⊥)
-      → (isFree (e kind n 0) ≡ false → names (deletion c) kind n (shown kind (e kind n 0)) ≡ true) → EntryAfter c e e′ kind n
+      → (isFree (e kind n 0) ≡ false → names c kind n (shown kind (e kind n 0)) ≡ true) → EntryAfter c e e′ kind n
 
 pub data MemberAfter (c : Change) (e e′ : Words) (s m : ℕ) : Type 0 where
   same : has (e′ SchemaInstance s 1) m ≡ has (e SchemaInstance s 1) m → (c ≡ Joined s m → ⊥)
@@ -109,10 +109,10 @@ module _ (c : Change) (r : List Change) (e e′ : Words) where
   unfolding Live
   entry-on kind n first h (same free shows none keeps) = (there, back)
     where
-      there : Since (λ x earlier. x ≡ Made kind n first) (λ x. names (deletion x) kind n first) (c ∷ r) → Entry e′ kind n first
+      there : Since (λ x earlier. x ≡ Made kind n first) (λ x. names x kind n first) (c ∷ r) → Entry e′ kind n first
       there s = ⊎-elim (λ p. absurd (none first p)) (λ p. let w = h .0 (p .0) in record { live = free ∙ w .live; shows = shows ∙ w .shows }) (since-cases s)
 
-      back : Entry e′ kind n first → Since (λ x earlier. x ≡ Made kind n first) (λ x. names (deletion x) kind n first) (c ∷ r)
+      back : Entry e′ kind n first → Since (λ x earlier. x ≡ Made kind n first) (λ x. names x kind n first) (c ∷ r)
       back w =
           let was : Entry e kind n first = record { live = sym free ∙ w .live; shows = sym shows ∙ w .shows } in
           still (h .1 was) (rw (was .shows) at (keeps (was .live)))
@@ -189,16 +189,14 @@ module _ (c : Change) (r : List Change) (e e′ : Words) where
 
 -- ---- what is as it was
 
--- the eight changes told apart
+-- the changes told apart
 abbrev pub shape : Change → ℕ
 shape (Made kind n first) = 0
-shape (Dissolved s) = 1
+shape (Gone kind n) = 1
 shape (Joined s m) = 2
 shape (Left s m) = 3
 shape (Put i k v) = 4
 shape (Unset i k) = 5
-shape (Deleted i) = 6
-shape (Removed m) = 7
 
 pub not-made : (c : Change) {kind : Kind} {n first : ℕ} → eqb (shape c) 0 ≡ false → c ≡ Made kind n first → ⊥
 not-made c {kind} {n} {first} p e = clash (eqb (shape c) 0) (ap (λ (x : Change). eqb (shape x) 0) e) p
@@ -211,7 +209,7 @@ not-put c {i} {k} {v} p e = clash (eqb (shape c) 4) (ap (λ (x : Change). eqb (s
 
 module _ (c : Change) (e e′ : Words) where
   pub entry-kept : (kind : Kind) (n : ℕ) → e′ kind n 0 ≡ e kind n 0 → ((first : ℕ) → c ≡ Made kind n first → ⊥)
-      → (isFree (e kind n 0) ≡ false → names (deletion c) kind n (shown kind (e kind n 0)) ≡ false) → EntryAfter c e e′ kind n
+      → (isFree (e kind n 0) ≡ false → names c kind n (shown kind (e kind n 0)) ≡ false) → EntryAfter c e e′ kind n
   entry-kept kind n p none keeps = same (ap isFree p) (ap (shown kind) p) none keeps
 
   pub member-kept : (s m : ℕ) → e′ SchemaInstance s 1 ≡ e SchemaInstance s 1 → (c ≡ Joined s m → ⊥)

@@ -6,17 +6,17 @@ use mathlib.Core.List.{List}
 use Prim.Native.Nat.{ℕ, _<_}
 use native.Mathlib.Omega.{arith}
 use borrow.Author.Tests.{eq-eqb, ne-eqb}
+use Rattle.tables.specs.Laws.Sound.{live-below}
 use Rattle.words.specs.declared.layout.Kind.the-variants.{Model}
 use Rattle.words.specs.Sets.{none, bits, has, insert, remove}
-use Rattle.words.specs.Laws.Bools.{and-left}
+use Rattle.logic.specs.Laws.Bools.{and-left, clash}
 use Rattle.words.specs.Laws.Sets.{has-insert, has-remove}
 use Rattle.tables.specs.View.{isLive, labelAt}
 use Rattle.session.specs.declared.state.Session.{Session}
 use Rattle.session.specs.States.{RO, RW, isOpen, under, withAccess, session}
 use Rattle.session.specs.Sound.{mayAccess}
-use Rattle.promises.specs.Keeps.Tests.{clash}
 use Rattle.promises.specs.Keeps.Facts.{SoundTables}
-use Rattle.promises.specs.Keeps.Frame.{same-or-not, live-below}
+use Rattle.promises.specs.Keeps.Frame.{same-or-not}
 use Rattle.promises.specs.Keeps.SessionFacts.{SoundAccess, Sound}
 use Rattle.promises.specs.Keeps.Afterwards.{Leaves, opened-sound, access-stays}
 
@@ -46,13 +46,13 @@ module _ (x : Session) (w k : List ℕ) (h : Sound x w k) (opened : isOpen (x .s
           recording = h .session .recording;
           repositories = h .session .repositories;
           transaction = record { known = h .session .transaction .known; no-writing = h .session .transaction .no-writing; no-reading = λ e. clash _ going e };
-          access = λ m b. told m b (same-or-not m a);
+          access = λ m b. by-cases m b (same-or-not m a);
         })
         (h .session .log)
       where
-        told : (m : ℕ) → m < bits → (m ≡ a) ⊎ (m ≡ a → ⊥) → SoundAccess w (withAccess (x .state) (insert (x .state .ro) a) (x .state .rw)) m
-        told m b (inl e) = rw e (record { one = λ q. free; may = λ q. may })
-        told m b (inr e) = record {
+        by-cases : (m : ℕ) → m < bits → (m ≡ a) ⊎ (m ≡ a → ⊥) → SoundAccess w (withAccess (x .state) (insert (x .state .ro) a) (x .state .rw)) m
+        by-cases m b (inl e) = rw e (record { one = λ q. free; may = λ q. may })
+        by-cases m b (inr e) = record {
           one = λ q. h .session .access m b .one (sym (same-member (x .state .ro) a m inside e) ∙ q);
           may = λ q. h .session .access m b .may (rw (same-member (x .state .ro) a m inside e) at q);
         }
@@ -66,13 +66,13 @@ module _ (x : Session) (w k : List ℕ) (h : Sound x w k) (opened : isOpen (x .s
           recording = h .session .recording;
           repositories = h .session .repositories;
           transaction = record { known = h .session .transaction .known; no-writing = λ e. clash _ writing e; no-reading = h .session .transaction .no-reading };
-          access = λ m b. told m b (same-or-not m a);
+          access = λ m b. by-cases m b (same-or-not m a);
         })
         (h .session .log)
       where
-        told : (m : ℕ) → m < bits → (m ≡ a) ⊎ (m ≡ a → ⊥) → SoundAccess w (withAccess (x .state) (x .state .ro) (insert (x .state .rw) a)) m
-        told m b (inl e) = rw e (record { one = λ q. clash _ q free; may = λ q. may })
-        told m b (inr e) = record {
+        by-cases : (m : ℕ) → m < bits → (m ≡ a) ⊎ (m ≡ a → ⊥) → SoundAccess w (withAccess (x .state) (x .state .ro) (insert (x .state .rw) a)) m
+        by-cases m b (inl e) = rw e (record { one = λ q. clash _ q free; may = λ q. may })
+        by-cases m b (inr e) = record {
           one = λ q. same-member (x .state .rw) a m inside e ∙ h .session .access m b .one q;
           may = λ q. h .session .access m b .may (rw (same-member (x .state .rw) a m inside e) at q);
         }
@@ -88,18 +88,18 @@ module _ (x : Session) (w k : List ℕ) (h : Sound x w k) (opened : isOpen (x .s
         recording = h .session .recording;
         repositories = h .session .repositories;
         transaction = record { known = h .session .transaction .known; no-writing = λ e. none-remain (x .state .rw) a (h .session .transaction .no-writing e); no-reading = λ e. none-remain (x .state .ro) a (h .session .transaction .no-reading e) };
-        access = λ m b. told m b (same-or-not m a);
+        access = λ m b. by-cases m b (same-or-not m a);
       })
       (h .session .log)
     where
-      told : (m : ℕ) → m < bits → (m ≡ a) ⊎ (m ≡ a → ⊥) → SoundAccess w′ (withAccess (x .state) (remove (x .state .ro) a) (remove (x .state .rw) a)) m
-      told m b (inl e) =
+      by-cases : (m : ℕ) → m < bits → (m ≡ a) ⊎ (m ≡ a → ⊥) → SoundAccess w′ (withAccess (x .state) (remove (x .state .ro) a) (remove (x .state .rw) a)) m
+      by-cases m b (inl e) =
           rw e
           (record {
             one = λ q. not-remaining (x .state .rw) a;
             may = λ q. clash (has (remove (x .state .ro) a) a || has (remove (x .state .rw) a) a) q (rw (not-remaining (x .state .ro) a, not-remaining (x .state .rw) a));
           })
-      told m b (inr e) =
+      by-cases m b (inr e) =
           let before : SoundAccess w′ (x .state) m = access-stays w w′ (x .state) m (λ live. same m e) (h .session .access m b) in
           record {
             one = λ q. same-remaining (x .state .rw) a m e ∙ before .one (sym (same-remaining (x .state .ro) a m e) ∙ q);

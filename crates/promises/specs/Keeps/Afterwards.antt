@@ -7,10 +7,10 @@ use native.Mathlib.Omega.{arith}
 use lib.Dec.{lit<}
 use borrow.Author.Tests.{eq-eqb, eqb-false}
 use Rattle.words.specs.declared.layout.Kind.the-variants.{Model}
-use Rattle.words.specs.Search.{allB}
+use Rattle.logic.specs.Search.{allB}
 use Rattle.words.specs.Sets.{none, bits, has}
 use Rattle.words.specs.Copies.{copied}
-use Rattle.words.specs.Laws.Bools.{and-left}
+use Rattle.logic.specs.Laws.Bools.{and-left, clash}
 use Rattle.words.specs.Laws.Sets.{has-none}
 use Rattle.tables.specs.View.{isLive, labelAt}
 use Rattle.session.specs.declared.state.State.{State}
@@ -21,7 +21,6 @@ use Rattle.session.specs.Sound.{soundPlaces, soundLog, mayAccess}
 use Rattle.session.specs.declared.effects.Tables.the-variants.{Stay, Commit, Drop}
 use Rattle.session.specs.Effects.{workingAfter, keptAfter, ifWriting}
 use Rattle.session.specs.Step.{logAfter}
-use Rattle.promises.specs.Keeps.Tests.{clash}
 use Rattle.promises.specs.Keeps.Facts.{SoundTable, SoundTables}
 use Rattle.promises.specs.Keeps.SessionFacts.{SoundLog, log-test, SoundAccess, SoundTransaction, SoundSession, Sound}
 use Rattle.promises.specs.Keeps.Copied.{turned, copy-agrees, copy-sound}
@@ -58,14 +57,14 @@ abbrev pub Leaves : Log → State → List ℕ → List ℕ → Type 0
 Leaves l s w k = Sound (session s (logAfter s l)) w k
 
 pub opened-sound : (w k : List ℕ) (s : State) (l : Log) → isOpen s ≡ true → Opened w k s → SoundLog l → Leaves l s w k
-opened-sound w k s l opened o h = told (isOpen s) opened
+opened-sound w k s l opened o h = by-cases (isOpen s) opened
   where
-    told : (b : Bool) → b ≡ true → Sound (session s (cond b l blankLog)) w k
-    told true e = record {
+    by-cases : (b : Bool) → b ≡ true → Sound (session s (cond b l blankLog)) w k
+    by-cases true e = record {
       tables = o .tables;
       session = record { closed = λ e. clash _ opened e; recording = o .recording; repositories = o .repositories; transaction = o .transaction; access = o .access; log = h };
     }
-    told false e = clash false e refl
+    by-cases false e = clash false e refl
 
 -- ---- transactions
 
@@ -80,41 +79,41 @@ module _ (s : State) (h : SoundTransaction s) where
 
   -- one that is neither aborted nor none is RO or RW
   pub going : under s ABORTED ≡ false → under s NONE ≡ false → (under s RW || under s RO) ≡ true
-  going a n = told (under s RO) refl
+  going a n = by-cases (under s RO) refl
     where
-      told : (b : Bool) → under s RO ≡ b → (under s RW || b) ≡ true
-      told true r = or-true (under s RW)
-      told false r = rw (writing a n r)
+      by-cases : (b : Bool) → under s RO ≡ b → (under s RW || b) ≡ true
+      by-cases true r = or-true (under s RW)
+      by-cases false r = rw (writing a n r)
 
 module _ (w k : List ℕ) (s : State) (h : SoundTables (under s RW) w k) where
   -- RW or not, what is dropped or committed leaves tables that agree
   pub dropped : SoundTables false (workingAfter (ifWriting s Drop) w k) (keptAfter (ifWriting s Drop) w k)
-  dropped = told (under s RW) refl
+  dropped = by-cases (under s RW) refl
     where
-      told : (b : Bool) → under s RW ≡ b → SoundTables false (workingAfter (cond b Drop Stay) w k) (keptAfter (cond b Drop Stay) w k)
-      told true e = record {
+      by-cases : (b : Bool) → under s RW ≡ b → SoundTables false (workingAfter (cond b Drop Stay) w k) (keptAfter (cond b Drop Stay) w k)
+      by-cases true e = record {
         working = copy-sound k w (h .kept) (h .working);
         kept = h .kept;
         agreeing = λ f. turned k (copied k w) (copy-agrees k w (h .kept) (h .working));
       }
-      told false e = record { working = h .working; kept = h .kept; agreeing = λ f. h .agreeing e }
+      by-cases false e = record { working = h .working; kept = h .kept; agreeing = λ f. h .agreeing e }
 
   pub committed : SoundTables false (workingAfter (ifWriting s Commit) w k) (keptAfter (ifWriting s Commit) w k)
-  committed = told (under s RW) refl
+  committed = by-cases (under s RW) refl
     where
-      told : (b : Bool) → under s RW ≡ b → SoundTables false (workingAfter (cond b Commit Stay) w k) (keptAfter (cond b Commit Stay) w k)
-      told true e = record { working = h .working; kept = copy-sound w k (h .working) (h .kept); agreeing = λ f. copy-agrees w k (h .working) (h .kept) }
-      told false e = record { working = h .working; kept = h .kept; agreeing = λ f. h .agreeing e }
+      by-cases : (b : Bool) → under s RW ≡ b → SoundTables false (workingAfter (cond b Commit Stay) w k) (keptAfter (cond b Commit Stay) w k)
+      by-cases true e = record { working = h .working; kept = copy-sound w k (h .working) (h .kept); agreeing = λ f. copy-agrees w k (h .working) (h .kept) }
+      by-cases false e = record { working = h .working; kept = h .kept; agreeing = λ f. h .agreeing e }
 
 -- ---- a table is changed, the session stays
 
 -- access to a model whose label is as it was
 pub access-stays : (w w′ : List ℕ) (s : State) (m : ℕ) → (isLive w Model m ≡ true → labelAt w′ Model m ≡ labelAt w Model m)
     → SoundAccess w s m → SoundAccess w′ s m
-access-stays w w′ s m same h = record { one = h .one; may = λ e. told (h .may e) }
+access-stays w w′ s m same h = record { one = h .one; may = λ e. by-cases (h .may e) }
   where
-    told : mayAccess w s m ≡ true → mayAccess w′ s m ≡ true
-    told e = rw (same (and-left (isLive w Model m) _ e)) e
+    by-cases : mayAccess w s m ≡ true → mayAccess w′ s m ≡ true
+    by-cases e = rw (same (and-left (isLive w Model m) _ e)) e
 
 pub table-changed : (x : Session) (w w′ k : List ℕ) → Sound x w k → isOpen (x .state) ≡ true → under (x .state) RW ≡ true
     → SoundTable w′ → ((m : ℕ) → isLive w Model m ≡ true → labelAt w′ Model m ≡ labelAt w Model m)

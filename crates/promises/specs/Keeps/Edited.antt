@@ -1,5 +1,5 @@
 -- A table in which one entry is edited: what that entry must be for the table to stay sound.
-use mathlib.Core.Path.{_≡_, sym, _∙_}
+use mathlib.Core.Path.{_≡_, refl, sym, _∙_}
 use mathlib.Core.Bool.{true, false}
 use mathlib.Core.Logic.{_⊎_, inl, inr}
 use mathlib.Core.List.{List}
@@ -10,11 +10,12 @@ use Rattle.words.specs.declared.layout.Kind.{Kind}
 use Rattle.words.specs.declared.layout.Kind.the-variants.{Model, SchemaInstance, Instance}
 use Rattle.words.specs.Layout.{countOf}
 use Rattle.words.specs.Sets.{has}
-use Rattle.words.specs.Entries.{wordOf, freeAt, formed, withWord, withWords}
-use Rattle.words.specs.Laws.Entries.{length-word, word-other, length-words, words-other}
+use Rattle.words.specs.Entries.{wordOf, freeAt, formed, withWord, withEntry}
+use Rattle.words.specs.Laws.Layout.{kinds-apart}
+use Rattle.words.specs.Laws.Entries.{length-word, word-other, length-entry, entry-other}
 use Rattle.tables.specs.View.{isLive, labelAt, setAt, modelAt}
 use Rattle.promises.specs.Keeps.Facts.{SameName, Distinct, SoundGroup, SoundInstance, SoundTable}
-use Rattle.promises.specs.Keeps.Frame.{same-or-not, group-no-instance, group-no-model, instance-no-group, instance-no-model, model-no-group, model-no-instance, distinct-kept, distinct-edited, group-stays, Lasts, lasts-same, instance-stays}
+use Rattle.promises.specs.Keeps.Frame.{same-or-not, distinct-kept, distinct-edited, group-stays, Lasts, lasts-same, instance-stays}
 
 -- all but entry n of a kind is as it was
 pub record Rest (t t′ : List ℕ) (kind : Kind) (n : ℕ) : Type 0 where
@@ -24,8 +25,8 @@ pub record Rest (t t′ : List ℕ) (kind : Kind) (n : ℕ) : Type 0 where
 pub word-rest : (t : List ℕ) (kind : Kind) (n k w : ℕ) → Rest t (withWord t kind n k w) kind n
 word-rest t kind n k w = record { long = length-word t kind n k w; others = λ kind′ i j apart. word-other t kind n k w kind′ i j (λ s. apart (s .kinds) (s .numbers)) }
 
-pub words-rest : (t : List ℕ) (kind : Kind) (n : ℕ) (ws : List ℕ) (j : ℕ) → Rest t (withWords t kind n ws j) kind n
-words-rest t kind n ws j = record { long = length-words t kind n ws j; others = λ kind′ i k apart. words-other t kind n ws j kind′ i k apart }
+pub entry-rest : (t : List ℕ) (kind : Kind) (n first : ℕ) → Rest t (withEntry t kind n first) kind n
+entry-rest t kind n first = record { long = length-entry t kind n first; others = λ kind′ i k apart. entry-other t kind n first kind′ i k apart }
 
 pub rest-then : (t t′ t″ : List ℕ) (kind : Kind) (n : ℕ) → Rest t t′ kind n → Rest t′ t″ kind n → Rest t t″ kind n
 rest-then t t′ t″ kind n a b = record { long = b .long ∙ a .long; others = λ kind′ i k apart. b .others kind′ i k apart ∙ a .others kind′ i k apart }
@@ -36,10 +37,10 @@ module _ (t t′ : List ℕ) (n : ℕ) (h : SoundTable t) where
     other-model m k apart = r .others Model m k (λ e same. apart (sym same))
 
     same-group : (s k : ℕ) → wordOf t′ SchemaInstance s k ≡ wordOf t SchemaInstance s k
-    same-group s k = r .others SchemaInstance s k (λ e same. model-no-group e)
+    same-group s k = r .others SchemaInstance s k (λ e same. kinds-apart e refl)
 
     same-instance : (i k : ℕ) → wordOf t′ Instance i k ≡ wordOf t Instance i k
-    same-instance i k = r .others Instance i k (λ e same. model-no-instance e)
+    same-instance i k = r .others Instance i k (λ e same. kinds-apart e refl)
 
     pub model-edited : formed Model (labelAt t′ Model n) ≡ true
         → ((j : ℕ) → (j ≡ n → ⊥) → SameName (labelAt t′ Model n) (labelAt t Model j) → ⊥)
@@ -64,10 +65,10 @@ module _ (t t′ : List ℕ) (n : ℕ) (h : SoundTable t) where
     other-group s k apart = r .others SchemaInstance s k (λ e same. apart (sym same))
 
     pub group-same-model : (m k : ℕ) → wordOf t′ Model m k ≡ wordOf t Model m k
-    group-same-model m k = r .others Model m k (λ e same. group-no-model e)
+    group-same-model m k = r .others Model m k (λ e same. kinds-apart e refl)
 
     pub group-same-instance : (i k : ℕ) → wordOf t′ Instance i k ≡ wordOf t Instance i k
-    group-same-instance i k = r .others Instance i k (λ e same. group-no-instance e)
+    group-same-instance i k = r .others Instance i k (λ e same. kinds-apart e refl)
 
     pub group-edited : SoundGroup t′ n → Distinct t′ SchemaInstance → SoundTable t′
     group-edited new names = record {
@@ -88,17 +89,17 @@ module _ (t t′ : List ℕ) (n : ℕ) (h : SoundTable t) where
     other-instance i k apart = r .others Instance i k (λ e same. apart (sym same))
 
     pub instance-same-model : (m k : ℕ) → wordOf t′ Model m k ≡ wordOf t Model m k
-    instance-same-model m k = r .others Model m k (λ e same. instance-no-model e)
+    instance-same-model m k = r .others Model m k (λ e same. kinds-apart e refl)
 
     instance-same-group : (s k : ℕ) → wordOf t′ SchemaInstance s k ≡ wordOf t SchemaInstance s k
-    instance-same-group s k = r .others SchemaInstance s k (λ e same. instance-no-group e)
+    instance-same-group s k = r .others SchemaInstance s k (λ e same. kinds-apart e refl)
 
     pub all-last : (isLive t Instance n ≡ true → Lasts t t′ n) → (v : ℕ) → isLive t Instance v ≡ true → Lasts t t′ v
-    all-last own v live = told (same-or-not v n)
+    all-last own v live = by-cases (same-or-not v n)
       where
-        told : (v ≡ n) ⊎ (v ≡ n → ⊥) → Lasts t t′ v
-        told (inl e) = rw e (own (rw e at live))
-        told (inr e) = lasts-same t t′ v (other-instance v 0 e) live
+        by-cases : (v ≡ n) ⊎ (v ≡ n → ⊥) → Lasts t t′ v
+        by-cases (inl e) = rw e (own (rw e at live))
+        by-cases (inr e) = lasts-same t t′ v (other-instance v 0 e) live
 
     pub instance-edited : SoundInstance t′ n → (isLive t Instance n ≡ true → Lasts t t′ n) → SoundTable t′
     instance-edited new own = record {

@@ -10,14 +10,13 @@ use Rattle.words.specs.Layout.{words, countOf}
 use Rattle.words.specs.Sets.{none, bits, has}
 use Rattle.words.specs.Fields.{nameIn, repositoryIn, values, isFree}
 use Rattle.words.specs.Entries.{freeAt, formed}
-use Rattle.words.specs.Laws.Decides.{Decides, both, equal, at-most, every, denied, restated}
+use Rattle.logic.specs.Laws.Decides.{Decides, both, equal, at-most, every, denied, restated, itself, choice, whenever, unless}
 use Rattle.words.specs.Laws.Fields.{Label, label-test}
 use Rattle.words.specs.Laws.Copies.{Agreeing, agree-test}
 use Rattle.dictionary.specs.Dictionary.{attributeOf}
 use Rattle.tables.specs.View.{labelAt, setAt, headerAt, typeAt, isSet, valueAt}
 use Rattle.tables.specs.Sound.{sameName, distinct, mayJoin, soundGroup, soundValue, soundInstance, soundTable, soundTables}
 pub use Rattle.tables.specs.Laws.Sound.{SoundHeader, sound-header-test}
-use Rattle.promises.specs.Keeps.Tests.{itself, choice, whenever, unless}
 
 -- ---- names
 
@@ -85,18 +84,10 @@ pub record SoundTable (t : List ℕ) : Type 0 where
 pub table-test : (t : List ℕ) → Decides (soundTable t) (SoundTable t)
 unfolding soundTable
 table-test t =
-    restated
-    (both _ _
-    (both _ _
-    (both _ _
-    (both _ _
-    (both _ _ (at-most words (length t)) (every (countOf Model) _ _ (λ m. itself (formed Model (labelAt t Model m)))))
-    (distinct-test t Model))
-    (every (countOf SchemaInstance) _ _ (group-test t)))
-    (distinct-test t SchemaInstance))
-    (every (countOf Instance) _ _ (instance-test t)))
-    (λ h. record { long = h .0 .0 .0 .0 .0; models = h .0 .0 .0 .0 .1; model-names = h .0 .0 .0 .1; groups = h .0 .0 .1; group-names = h .0 .1; instances = h .1 })
-    (λ h. (((((h .long, h .models), h .model-names), h .groups), h .group-names), h .instances))
+    let entries = both _ _ (both _ _ (both _ _ (every (countOf Model) _ _ (λ m. itself (formed Model (labelAt t Model m)))) (distinct-test t Model)) (every (countOf SchemaInstance) _ _ (group-test t))) (distinct-test t SchemaInstance) in
+    restated (both _ _ (both _ _ (at-most words (length t)) entries) (every (countOf Instance) _ _ (instance-test t)))
+    (λ h. record { long = h .0 .0; models = h .0 .1 .0 .0 .0; model-names = h .0 .1 .0 .0 .1; groups = h .0 .1 .0 .1; group-names = h .0 .1 .1; instances = h .1 })
+    (λ h. ((h .long, (((h .models, h .model-names), h .groups), h .group-names)), h .instances))
 
 pub record SoundTables (writing : Bool) (w k : List ℕ) : Type 0 where
   pub working : SoundTable w

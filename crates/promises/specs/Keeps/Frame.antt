@@ -1,5 +1,5 @@
 -- What an entry's soundness rests on: its own words, the labels of live models, and which instances live with which types.
-use mathlib.Core.Path.{_≡_, refl, ap, _∙_}
+use mathlib.Core.Path.{_≡_, refl, _∙_}
 use mathlib.Core.Bool.{Bool, true, false, _&&_}
 use mathlib.Core.Logic.{_⊎_, inl, inr}
 use mathlib.Core.List.{List}
@@ -7,13 +7,13 @@ use Prim.Native.Nat.{ℕ, _+_}
 use native.Mathlib.Omega.{arith}
 use lib.Dec.{eqb}
 use borrow.Author.Tests.{eqb-true, eqb-false, not-true}
+use Rattle.tables.specs.Laws.Sound.{SoundHeader}
 use Rattle.words.specs.declared.layout.Kind.{Kind}
 use Rattle.words.specs.declared.layout.Kind.the-variants.{Model, SchemaInstance, Instance}
-use Rattle.words.specs.Layout.{baseOf}
 use Rattle.words.specs.Sets.{has}
 use Rattle.words.specs.Fields.{modelIn}
 use Rattle.words.specs.Entries.{wordOf, freeAt}
-use Rattle.words.specs.Laws.Bools.{and-left, and-right, and-both}
+use Rattle.logic.specs.Laws.Bools.{and-left, and-right, and-both}
 use Rattle.words.specs.Laws.Fields.{Alike}
 use Rattle.dictionary.specs.declared.answers.Attribute.{Attribute}
 use Rattle.dictionary.specs.declared.answers.Attribute.the-variants.{Lacking, Whole, Reference}
@@ -22,36 +22,14 @@ use Rattle.dictionary.specs.Subtype.{subtype}
 pub use Rattle.tables.specs.Laws.Sound.{live-below}
 use Rattle.tables.specs.View.{isLive, labelAt, setAt, headerAt, typeAt, modelAt, isSet, valueAt}
 use Rattle.tables.specs.Sound.{mayJoin, soundValue}
-use Rattle.promises.specs.Keeps.Facts.{SameName, turned, Distinct, SoundGroup, SoundHeader, SoundInstance}
+use Rattle.promises.specs.Keeps.Facts.{SameName, turned, Distinct, SoundGroup, SoundInstance}
 
 pub same-or-not : (i n : ℕ) → (i ≡ n) ⊎ (i ≡ n → ⊥)
-same-or-not i n = told (eqb i n) refl
+same-or-not i n = by-cases (eqb i n) refl
   where
-    told : (b : Bool) → eqb i n ≡ b → (i ≡ n) ⊎ (i ≡ n → ⊥)
-    told true e = inl (eqb-true i n e)
-    told false e = inr (eqb-false i n e)
-
--- the kinds are three
-kinds-apart : (kind kind′ : Kind) → (baseOf kind ≡ baseOf kind′ → ⊥) → kind ≡ kind′ → ⊥
-kinds-apart kind kind′ n e = n (ap baseOf e)
-
-pub group-no-model : SchemaInstance ≡ Model → ⊥
-group-no-model = kinds-apart SchemaInstance Model (λ z. omega arith)
-
-pub instance-no-model : Instance ≡ Model → ⊥
-instance-no-model = kinds-apart Instance Model (λ z. omega arith)
-
-pub model-no-group : Model ≡ SchemaInstance → ⊥
-model-no-group = kinds-apart Model SchemaInstance (λ z. omega arith)
-
-pub model-no-instance : Model ≡ Instance → ⊥
-model-no-instance = kinds-apart Model Instance (λ z. omega arith)
-
-pub group-no-instance : SchemaInstance ≡ Instance → ⊥
-group-no-instance = kinds-apart SchemaInstance Instance (λ z. omega arith)
-
-pub instance-no-group : Instance ≡ SchemaInstance → ⊥
-instance-no-group = kinds-apart Instance SchemaInstance (λ z. omega arith)
+    by-cases : (b : Bool) → eqb i n ≡ b → (i ≡ n) ⊎ (i ≡ n → ⊥)
+    by-cases true e = inl (eqb-true i n e)
+    by-cases false e = inr (eqb-false i n e)
 
 pub live-not-free : (t : List ℕ) (kind : Kind) (i : ℕ) → isLive t kind i ≡ true → freeAt t kind i ≡ false
 live-not-free t kind i h = not-true (freeAt t kind i) h
@@ -71,13 +49,13 @@ module _ (t t′ : List ℕ) (kind : Kind) where
   pub distinct-edited : (n : ℕ) → ((i : ℕ) → (i ≡ n → ⊥) → labelAt t′ kind i ≡ labelAt t kind i)
       → ((j : ℕ) → (j ≡ n → ⊥) → SameName (labelAt t′ kind n) (labelAt t kind j) → ⊥)
       → Distinct t kind → Distinct t′ kind
-  distinct-edited n own new d i l j m e = told (same-or-not i n) (same-or-not j n)
+  distinct-edited n own new d i l j m e = by-cases (same-or-not i n) (same-or-not j n)
     where
-      told : (i ≡ n) ⊎ (i ≡ n → ⊥) → (j ≡ n) ⊎ (j ≡ n → ⊥) → ⊥
-      told (inl p) (inl q) = omega arith
-      told (inl p) (inr q) = new j q (rw (p, own j q) at e)
-      told (inr p) (inl q) = new i p (turned _ _ (rw (q, own i p) at e))
-      told (inr p) (inr q) = d i l j m (rw (own i p, own j q) at e)
+      by-cases : (i ≡ n) ⊎ (i ≡ n → ⊥) → (j ≡ n) ⊎ (j ≡ n → ⊥) → ⊥
+      by-cases (inl p) (inl q) = omega arith
+      by-cases (inl p) (inr q) = new j q (rw (p, own j q) at e)
+      by-cases (inr p) (inl q) = new i p (turned _ _ (rw (q, own i p) at e))
+      by-cases (inr p) (inr q) = d i l j m (rw (own i p, own j q) at e)
 
 -- ---- groups
 

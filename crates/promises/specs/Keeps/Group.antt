@@ -7,24 +7,24 @@ use Prim.Native.Nat.{ℕ, _≤_, _<_}
 use native.Mathlib.Omega.{arith}
 use lib.Dec.{eqb}
 use borrow.Author.Tests.{eq-eqb, ne-eqb}
+use Rattle.tables.specs.Laws.Sound.{live-below}
 use Rattle.words.specs.declared.layout.Kind.{Kind}
 use Rattle.words.specs.declared.layout.Kind.the-variants.{Model, SchemaInstance, Instance}
 use Rattle.words.specs.Layout.{countOf}
 use Rattle.words.specs.Sets.{bits, none, has, insert, remove}
 use Rattle.words.specs.Fields.{labelOf, nameIn, repositoryIn, repositories, isFree, isNamed}
-use Rattle.words.specs.Entries.{freeAt, isTaken}
-use Rattle.words.specs.Laws.Bools.{and-left, and-right, or-right}
-use Rattle.words.specs.Laws.Search.{none-at}
+use Rattle.words.specs.Entries.{freeAt, isTaken, withEntry, withoutEntry}
+use Rattle.logic.specs.Laws.Bools.{and-left, and-right, or-right, clash, fails}
+use Rattle.logic.specs.Laws.Search.{none-at}
 use Rattle.words.specs.Laws.Sets.{has-insert, has-remove, has-none}
 use Rattle.words.specs.Laws.Fields.{Label, label-test, label-is-live, repository-of-label, schema-of-label}
-use Rattle.words.specs.Laws.Entries.{word-same, word-other, words-same}
+use Rattle.words.specs.Laws.Entries.{word-same, word-other, entry-first, entry-zeros}
 use Rattle.tables.specs.View.{isLive, labelAt, setAt, modelAt}
 use Rattle.tables.specs.Sound.{mayJoin}
-use Rattle.tables.specs.Changes.{withFirst, withSet}
-use Rattle.promises.specs.Keeps.Tests.{clash, fails}
+use Rattle.tables.specs.Edits.{withSet}
 use Rattle.promises.specs.Keeps.Facts.{SameName, SoundTable}
-use Rattle.promises.specs.Keeps.Frame.{same-or-not, live-below, live-not-free, distinct-kept, distinct-edited}
-use Rattle.promises.specs.Keeps.Edited.{Rest, word-rest, words-rest, model-edited, other-group, group-same-model, group-edited}
+use Rattle.promises.specs.Keeps.Frame.{same-or-not, live-not-free, distinct-kept, distinct-edited}
+use Rattle.promises.specs.Keeps.Edited.{Rest, word-rest, entry-rest, model-edited, other-group, group-same-model, group-edited}
 
 -- a label made of a repository, a schema and a name
 pub label-made : (r s n : ℕ) → r < repositories → 1 ≤ s → s ≤ 2 → n < 0x1_0000_0000 → Label (labelOf r s n)
@@ -46,20 +46,20 @@ not-named t kind w h j e =
 module _ (t : List ℕ) (n w : ℕ) (h : SoundTable t) where
   -- a model is made
   pub made-model : n < countOf Model → freeAt t Model n ≡ true → Label w → isTaken t Model (repositoryIn w) (nameIn w) ≡ false
-      → SoundTable (withFirst t Model n w)
+      → SoundTable (withEntry t Model n w)
   made-model l f label free =
-      model-edited t (withFirst t Model n w) n h (words-rest t Model n _ 1)
+      model-edited t (withEntry t Model n w) n h (entry-rest t Model n _)
       (rw new (or-right (isFree w) _ (label-test w .passes label)))
       (λ j apart e. not-named t Model w free j (rw new at e))
       (λ s e live. clash _ f (live-not-free t Model n live))
       (λ i e p live. clash _ f (live-not-free t Model n live))
     where
-      new : labelAt (withFirst t Model n w) Model n ≡ w
-      new = words-same t Model n (w ∷ 0 ∷ 0 ∷ 0 ∷ 0 ∷ []) 1 0 (omega arith) l (omega arith) (h .long)
+      new : labelAt (withEntry t Model n w) Model n ≡ w
+      new = entry-first t Model n w l (h .long)
 
   -- a schema instance is made
   pub made-group : n < countOf SchemaInstance → Label w → isTaken t SchemaInstance (repositoryIn w) (nameIn w) ≡ false
-      → SoundTable (withFirst t SchemaInstance n w)
+      → SoundTable (withEntry t SchemaInstance n w)
   made-group l label free =
       group-edited t t′ n h rest
       (record {
@@ -70,32 +70,32 @@ module _ (t : List ℕ) (n w : ℕ) (h : SoundTable t) where
       (distinct-edited t t′ SchemaInstance n (λ i apart. other-group t t′ n h rest i 0 apart) (λ j apart e. not-named t SchemaInstance w free j (rw new at e)) (h .group-names))
     where
       t′ : List ℕ
-      t′ = withFirst t SchemaInstance n w
+      t′ = withEntry t SchemaInstance n w
 
       rest : Rest t t′ SchemaInstance n
-      rest = words-rest t SchemaInstance n _ 2
+      rest = entry-rest t SchemaInstance n _
 
       new : labelAt t′ SchemaInstance n ≡ w
-      new = words-same t SchemaInstance n (w ∷ 0 ∷ 0 ∷ 0 ∷ 0 ∷ []) 2 0 (omega arith) l (omega arith) (h .long)
+      new = entry-first t SchemaInstance n w l (h .long)
 
       alone : setAt t′ n ≡ 0
-      alone = words-same t SchemaInstance n (w ∷ 0 ∷ 0 ∷ 0 ∷ 0 ∷ []) 2 1 (omega arith) l (omega arith) (h .long)
+      alone = entry-zeros t SchemaInstance n w 1 (omega arith) l (h .long) (λ z. absurd (omega arith))
 
 -- a model is taken away that no set and no instance names
 pub freed-model : (t : List ℕ) (n : ℕ) → SoundTable t → n < countOf Model → ((s : ℕ) → has (setAt t s) n ≡ true → ⊥)
-    → ((i : ℕ) → freeAt t Instance i ≡ false → modelAt t i ≡ n → ⊥) → SoundTable (withFirst t Model n 0)
+    → ((i : ℕ) → freeAt t Instance i ≡ false → modelAt t i ≡ n → ⊥) → SoundTable (withoutEntry t Model n)
 freed-model t n h l no-set no-instance =
-    model-edited t (withFirst t Model n 0) n h (words-rest t Model n _ 1)
+    model-edited t (withoutEntry t Model n) n h (entry-rest t Model n _)
     (rw new)
     (λ j apart e. e .left-live (rw new))
     (λ s e live. no-set s e)
     (λ i e p live. no-instance i e p)
   where
-    new : labelAt (withFirst t Model n 0) Model n ≡ 0
-    new = words-same t Model n (0 ∷ 0 ∷ 0 ∷ 0 ∷ 0 ∷ []) 1 0 (omega arith) l (omega arith) (h .long)
+    new : labelAt (withoutEntry t Model n) Model n ≡ 0
+    new = entry-first t Model n 0 l (h .long)
 
 -- a schema instance is taken away
-pub dissolved-group : (t : List ℕ) (n : ℕ) → SoundTable t → n < countOf SchemaInstance → SoundTable (withFirst t SchemaInstance n 0)
+pub dissolved-group : (t : List ℕ) (n : ℕ) → SoundTable t → n < countOf SchemaInstance → SoundTable (withoutEntry t SchemaInstance n)
 dissolved-group t n h l =
     group-edited t t′ n h rest
     (record {
@@ -106,16 +106,16 @@ dissolved-group t n h l =
     (distinct-edited t t′ SchemaInstance n (λ i apart. other-group t t′ n h rest i 0 apart) (λ j apart e. e .left-live (rw new)) (h .group-names))
   where
     t′ : List ℕ
-    t′ = withFirst t SchemaInstance n 0
+    t′ = withoutEntry t SchemaInstance n
 
     rest : Rest t t′ SchemaInstance n
-    rest = words-rest t SchemaInstance n _ 2
+    rest = entry-rest t SchemaInstance n _
 
     new : labelAt t′ SchemaInstance n ≡ 0
-    new = words-same t SchemaInstance n (0 ∷ 0 ∷ 0 ∷ 0 ∷ 0 ∷ []) 2 0 (omega arith) l (omega arith) (h .long)
+    new = entry-first t SchemaInstance n 0 l (h .long)
 
     alone : setAt t′ n ≡ 0
-    alone = words-same t SchemaInstance n (0 ∷ 0 ∷ 0 ∷ 0 ∷ 0 ∷ []) 2 1 (omega arith) l (omega arith) (h .long)
+    alone = entry-zeros t SchemaInstance n 0 1 (omega arith) l (h .long) (λ z. absurd (omega arith))
 
 -- the set of a schema instance is another one, whose members may join
 module _ (t : List ℕ) (n set : ℕ) (h : SoundTable t) (l : n < countOf SchemaInstance) where
@@ -146,7 +146,7 @@ module _ (t : List ℕ) (n m : ℕ) (h : SoundTable t) where
   joined-group live may =
       set-changed t n (insert (setAt t n) m) h here
       (λ f. clash _ f (live-not-free t SchemaInstance n live))
-      (λ f j b e. told f j b (same-or-not j m) (sym (has-insert (setAt t n) m j inside) ∙ e))
+      (λ f j b e. by-cases f j b (same-or-not j m) (sym (has-insert (setAt t n) m j inside) ∙ e))
     where
       here : n < countOf SchemaInstance
       here = live-below t SchemaInstance n live
@@ -154,10 +154,10 @@ module _ (t : List ℕ) (n m : ℕ) (h : SoundTable t) where
       inside : m < bits
       inside = live-below t Model m (and-left (isLive t Model m) _ may)
 
-      told : freeAt t SchemaInstance n ≡ false → (j : ℕ) → j < bits → (j ≡ m) ⊎ (j ≡ m → ⊥)
+      by-cases : freeAt t SchemaInstance n ≡ false → (j : ℕ) → j < bits → (j ≡ m) ⊎ (j ≡ m → ⊥)
           → (eqb j m || has (setAt t n) j) ≡ true → mayJoin t n j ≡ true
-      told f j b (inl p) e = rw p may
-      told f j b (inr p) e = h .groups n here .members f j b (rw (ne-eqb j m p) at e)
+      by-cases f j b (inl p) e = rw p may
+      by-cases f j b (inr p) e = h .groups n here .members f j b (rw (ne-eqb j m p) at e)
 
   -- a model leaves a set
   pub left-group : n < countOf SchemaInstance → SoundTable (withSet t n (remove (setAt t n) m))

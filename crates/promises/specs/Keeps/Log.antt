@@ -14,7 +14,7 @@ use Rattle.session.specs.declared.state.Log.{Log}
 use Rattle.session.specs.declared.state.Session.{Session}
 use Rattle.session.specs.States.{isOpen, places, event, blankEvent, log, added, session, noted}
 use Rattle.session.specs.Sound.{soundEvent}
-use Rattle.promises.specs.Keeps.Tests.{clash}
+use Rattle.logic.specs.Laws.Bools.{clash}
 use Rattle.promises.specs.Keeps.Range.{Refusing, refusing-test}
 use Rattle.promises.specs.Keeps.Frame.{same-or-not}
 use Rattle.promises.specs.Keeps.SessionFacts.{SoundLog, Sound}
@@ -53,18 +53,18 @@ module _ (l : Log) (e : Event) (h : SoundLog l) (good : soundEvent e ≡ true) w
           (h .used (1 + i) (omega arith) (lt-ltb (1 + i) (l .count) (omega arith)))
 
   added-sound : SoundLog (added l e)
-  added-sound = told (ltb (l .count) places) refl
+  added-sound = by-cases (ltb (l .count) places) refl
     where
-      told : (b : Bool) → ltb (l .count) places ≡ b
+      by-cases : (b : Bool) → ltb (l .count) places ≡ b
           → SoundLog (cond b (log (l .count + 1) (set (l .events) (l .count) e)) (log (l .count) (drop 1 (l .events) ++ (e ∷ []))))
-      told true q = one-more (ltb-true _ _ q)
-      told false q = pushed (ltb-false _ _ q)
+      by-cases true q = one-more (ltb-true _ _ q)
+      by-cases false q = pushed (ltb-false _ _ q)
 
 pub noted-sound : (x : Session) (op r : ℕ) (w k : List ℕ) → Refusing r → Sound x w k → Sound (noted x op r) w k
-noted-sound x op r w k refusing h = told (isOpen (x .state)) refl (eqb (x .state .recording) 1)
+noted-sound x op r w k refusing h = by-cases (isOpen (x .state)) refl (eqb (x .state .recording) 1)
   where
-    told : (a : Bool) → isOpen (x .state) ≡ a → (b : Bool) → Sound (cond (a && b) (session (x .state) (added (x .log) (event op r))) x) w k
-    told true opened true = record {
+    by-cases : (a : Bool) → isOpen (x .state) ≡ a → (b : Bool) → Sound (cond (a && b) (session (x .state) (added (x .log) (event op r))) x) w k
+    by-cases true opened true = record {
       tables = h .tables;
       session = record {
         closed = λ e. clash _ opened e;
@@ -75,5 +75,5 @@ noted-sound x op r w k refusing h = told (isOpen (x .state)) refl (eqb (x .state
         log = added-sound (x .log) (event op r) (h .session .log) (refusing-test r .passes refusing);
       };
     }
-    told true opened false = h
-    told false opened b = h
+    by-cases true opened false = h
+    by-cases false opened b = h

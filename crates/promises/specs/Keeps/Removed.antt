@@ -7,6 +7,7 @@ use Prim.Native.Nat.{ℕ, zero, suc, _+_, _≤_, _<_}
 use native.Mathlib.Omega.{arith}
 use lib.Dec.{ltb}
 use borrow.Author.Tests.{eq-eqb, eqb-true, ltb-true}
+use Rattle.tables.specs.Laws.Sound.{live-below}
 use Rattle.words.specs.declared.layout.Kind.{Kind}
 use Rattle.words.specs.declared.layout.Kind.the-variants.{Model, SchemaInstance, Instance}
 use Rattle.words.specs.Layout.{countOf}
@@ -15,18 +16,20 @@ use Rattle.words.specs.Fields.{values}
 use Rattle.words.specs.Entries.{wordOf, freeAt}
 use Rattle.words.specs.Laws.Sets.{has-none, has-remove}
 use Rattle.words.specs.Laws.Fields.{header-is-live}
-use Rattle.words.specs.Laws.Entries.{word-same, word-other, words-other}
+use Rattle.words.specs.Laws.Layout.{kinds-apart}
+use Rattle.words.specs.Laws.Entries.{word-same, word-other, entry-other}
 use Rattle.dictionary.specs.declared.answers.Attribute.{Attribute}
 use Rattle.dictionary.specs.declared.answers.Attribute.the-variants.{Lacking, Whole, Reference}
 use Rattle.dictionary.specs.Dictionary.{isReference, attributeOf}
 use Rattle.tables.specs.View.{isLive, labelAt, setAt, headerAt, typeAt, modelAt, isSet, valueAt}
 use Rattle.tables.specs.Sound.{soundValue}
-use Rattle.tables.specs.References.{refers, theInstance, thoseOf}
-use Rattle.tables.specs.declared.changes.Change.the-variants.{Deleted, Removed}
-use Rattle.tables.specs.Changes.{withSet, swept, ungrouped, apply}
-use Rattle.promises.specs.Keeps.Tests.{clash, fails}
+use Rattle.tables.specs.declared.changes.Change.the-variants.{Gone}
+use Rattle.tables.specs.Edits.{withoutMember}
+use Rattle.tables.specs.Deletions.{goesWith, refers, swept, ungrouped}
+use Rattle.tables.specs.Changes.{apply}
+use Rattle.logic.specs.Laws.Bools.{clash, fails}
 use Rattle.promises.specs.Keeps.Facts.{SoundInstance, SoundTable}
-use Rattle.promises.specs.Keeps.Frame.{same-or-not, group-no-instance, group-no-model, instance-no-group, instance-no-model, live-below, live-not-free, not-free-live, distinct-kept, group-stays, headed-stays, value-stays, Lasts}
+use Rattle.promises.specs.Keeps.Frame.{same-or-not, live-not-free, not-free-live, distinct-kept, group-stays, headed-stays, value-stays, Lasts}
 use Rattle.promises.specs.Keeps.Group.{left-group, freed-model}
 use Rattle.promises.specs.Keeps.Values.{unset-sound}
 use Rattle.promises.specs.Keeps.Swept.{Same, Unset, Rid, Sweep, sweeps}
@@ -42,10 +45,10 @@ value-kept t t′ goes (Reference u) false v n k h = h
 
 module _ (goes : ℕ → Bool) (t t′ : List ℕ) (h : SoundTable t) (w : Sweep goes (countOf Instance) t t′) where
   pub swept-model : (m k : ℕ) → wordOf t′ Model m k ≡ wordOf t Model m k
-  swept-model m k = w .others Model m k (λ e l. instance-no-model e)
+  swept-model m k = w .others Model m k (λ e l. kinds-apart e refl)
 
   swept-group : (s k : ℕ) → wordOf t′ SchemaInstance s k ≡ wordOf t SchemaInstance s k
-  swept-group s k = w .others SchemaInstance s k (λ e l. instance-no-group e)
+  swept-group s k = w .others SchemaInstance s k (λ e l. kinds-apart e refl)
 
   -- what goes is free
   swept-away : (j : ℕ) → j < countOf Instance → goes j ≡ true → freeAt t′ Instance j ≡ true
@@ -120,9 +123,9 @@ module _ (goes : ℕ → Bool) (t t′ : List ℕ) (h : SoundTable t) (w : Sweep
   }
 
 -- an instance is deleted
-pub deleted-sound : (t : List ℕ) (i : ℕ) → SoundTable t → SoundTable (apply (Deleted i) t)
+pub deleted-sound : (t : List ℕ) (i : ℕ) → SoundTable t → SoundTable (apply (Gone Instance i) t)
 unfolding apply
-deleted-sound t i h = sweep-sound (theInstance i) t (swept t (theInstance i) (countOf Instance)) h (sweeps (theInstance i) t (countOf Instance) (omega arith) (h .long))
+deleted-sound t i h = sweep-sound (goesWith t Instance i) t (swept t (goesWith t Instance i) (countOf Instance)) h (sweeps (goesWith t Instance i) t (countOf Instance) (omega arith) (h .long))
 
 -- ---- a model leaves all sets
 
@@ -136,17 +139,17 @@ unfolding ungrouped
 ungroups t m zero hn h = record { sound = h; others = λ kind i k apart. refl; cleared = λ s l. absurd (omega arith) }
 ungroups t m (suc n) hn h = more (ungrouped t m n) (ungroups t m n (omega arith) h)
   where
-    more : (before : List ℕ) → Ungrouped t before m n → Ungrouped t (withSet before n (remove (setAt before n) m)) m (suc n)
+    more : (before : List ℕ) → Ungrouped t before m n → Ungrouped t (withoutMember before n m) m (suc n)
     more before u = record {
       sound = left-group before n m (u .sound) hn;
       others = λ kind i k apart. word-other before SchemaInstance n 1 _ kind i k (λ s. apart (s .kinds)) ∙ u .others kind i k apart;
-      cleared = λ s l. told s l (same-or-not s n);
+      cleared = λ s l. by-cases s l (same-or-not s n);
     }
       where
-        told : (s : ℕ) → s < suc n → (s ≡ n) ⊎ (s ≡ n → ⊥) → has (setAt (withSet before n (remove (setAt before n) m)) s) m ≡ false
-        told s l (inl e) =
+        by-cases : (s : ℕ) → s < suc n → (s ≡ n) ⊎ (s ≡ n → ⊥) → has (setAt (withoutMember before n m) s) m ≡ false
+        by-cases s l (inl e) =
             rw (e, word-same before SchemaInstance n 1 (remove (setAt before n) m) hn (omega arith) (u .sound .long), has-remove (setAt before n) m m, eq-eqb m m refl)
-        told s l (inr e) =
+        by-cases s l (inr e) =
             rw (word-other before SchemaInstance n 1 (remove (setAt before n) m) SchemaInstance s 1 (λ q. e (sym (q .numbers))))
             (u .cleared s (omega arith))
 
@@ -154,50 +157,50 @@ ungroups t m (suc n) hn h = more (ungrouped t m n) (ungroups t m n (omega arith)
 
 module _ (t : List ℕ) (m : ℕ) (h : SoundTable t) (here : m < countOf Model) where
   emptied : List ℕ
-  emptied = swept t (thoseOf t m) (countOf Instance)
+  emptied = swept t (goesWith t Model m) (countOf Instance)
 
   left-alone : List ℕ
   left-alone = ungrouped emptied m (countOf SchemaInstance)
 
-  sweep : Sweep (thoseOf t m) (countOf Instance) t emptied
+  sweep : Sweep (goesWith t Model m) (countOf Instance) t emptied
   unfolding emptied
-  sweep = sweeps (thoseOf t m) t (countOf Instance) (omega arith) (h .long)
+  sweep = sweeps (goesWith t Model m) t (countOf Instance) (omega arith) (h .long)
 
   alone : Ungrouped emptied left-alone m (countOf SchemaInstance)
   unfolding left-alone
-  alone = ungroups emptied m (countOf SchemaInstance) (omega arith) (sweep-sound (thoseOf t m) t emptied h sweep)
+  alone = ungroups emptied m (countOf SchemaInstance) (omega arith) (sweep-sound (goesWith t Model m) t emptied h sweep)
 
   no-member : (s : ℕ) → has (setAt left-alone s) m ≡ true → ⊥
-  no-member s e = told (ltb s (countOf SchemaInstance)) refl
+  no-member s e = by-cases (ltb s (countOf SchemaInstance)) refl
     where
-      told : (b : Bool) → ltb s (countOf SchemaInstance) ≡ b → ⊥
-      told true l = clash _ e (alone .cleared s (ltb-true _ _ l))
-      told false l = clash (has none m) (rw l at e) (has-none m)
+      by-cases : (b : Bool) → ltb s (countOf SchemaInstance) ≡ b → ⊥
+      by-cases true l = clash _ e (alone .cleared s (ltb-true _ _ l))
+      by-cases false l = clash (has none m) (rw l at e) (has-none m)
 
-  not-its : (i : ℕ) → i < countOf Instance → freeAt emptied Instance i ≡ false → modelAt emptied i ≡ m → (b : Bool) → thoseOf t m i ≡ b → ⊥
-  not-its i l f e true g = clash _ (swept-away (thoseOf t m) t emptied h sweep i l g) f
+  not-its : (i : ℕ) → i < countOf Instance → freeAt emptied Instance i ≡ false → modelAt emptied i ≡ m → (b : Bool) → goesWith t Model m i ≡ b → ⊥
+  not-its i l f e true g = clash _ (swept-away (goesWith t Model m) t emptied h sweep i l g) f
   not-its i l f e false g =
-      let lived : freeAt t Instance i ≡ false = swept-lived (thoseOf t m) t emptied h sweep i l g f in
+      let lived : freeAt t Instance i ≡ false = swept-lived (goesWith t Model m) t emptied h sweep i l g f in
       let its : modelAt t i ≡ m = sym (sweep .stays i l g .alike .models) ∙ e in
-      clash (thoseOf t m i) (rw (lived, eq-eqb _ _ its)) g
+      clash (goesWith t Model m i) (rw (lived, eq-eqb _ _ its)) g
 
   same-instance : (i k : ℕ) → wordOf left-alone Instance i k ≡ wordOf emptied Instance i k
-  same-instance i k = alone .others Instance i k group-no-instance
+  same-instance i k = alone .others Instance i k (λ z. kinds-apart z refl)
 
   no-instance : (i : ℕ) → freeAt left-alone Instance i ≡ false → modelAt left-alone i ≡ m → ⊥
   no-instance i f e =
       not-its i
       (live-below left-alone Instance i (not-free-live left-alone Instance i f))
-      (rw (same-instance i 0) at f) (rw (same-instance i 0) at e) (thoseOf t m i) refl
+      (rw (same-instance i 0) at f) (rw (same-instance i 0) at e) (goesWith t Model m i) refl
 
-  pub removed-sound : SoundTable (apply (Removed m) t)
+  pub removed-sound : SoundTable (apply (Gone Model m) t)
   unfolding apply left-alone emptied
   removed-sound = freed-model left-alone m (alone .sound) here no-member no-instance
 
   -- the other models are as they were
-  pub removed-others : (n : ℕ) → (n ≡ m → ⊥) → labelAt (apply (Removed m) t) Model n ≡ labelAt t Model n
+  pub removed-others : (n : ℕ) → (n ≡ m → ⊥) → labelAt (apply (Gone Model m) t) Model n ≡ labelAt t Model n
   unfolding apply left-alone emptied
   removed-others n apart =
-      words-other left-alone Model m _ 1 Model n 0 (λ e same. apart (sym same))
-      ∙ alone .others Model n 0 group-no-model
-      ∙ swept-model (thoseOf t m) t emptied h sweep n 0
+      entry-other left-alone Model m _ Model n 0 (λ e same. apart (sym same))
+      ∙ alone .others Model n 0 (λ z. kinds-apart z refl)
+      ∙ swept-model (goesWith t Model m) t emptied h sweep n 0

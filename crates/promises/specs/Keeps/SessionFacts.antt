@@ -6,13 +6,12 @@ use Prim.Native.Nat.{ℕ, _≤_, _<_}
 use lib.Dec.{ltb}
 use lib.ListN.{length, getD}
 use Rattle.words.specs.Sets.{none, bits, has}
-use Rattle.words.specs.Laws.Decides.{Decides, both, equal, less, at-most, every, restated}
+use Rattle.logic.specs.Laws.Decides.{Decides, both, equal, less, at-most, every, restated, itself, choice, whenever, unless, not-both}
 use Rattle.session.specs.declared.state.State.{State}
 use Rattle.session.specs.declared.state.Log.{Log}
 use Rattle.session.specs.declared.state.Session.{Session}
 use Rattle.session.specs.States.{NONE, RO, RW, ABORTED, isOpen, under, places, blankEvent}
 use Rattle.session.specs.Sound.{soundEvent, isBlank, soundPlaces, soundLog, mayAccess, soundAccess, soundTransaction, soundOpen, soundSession, sound}
-use Rattle.promises.specs.Keeps.Tests.{itself, choice, whenever, unless, not-both}
 use Rattle.promises.specs.Keeps.Facts.{SoundTables, tables-test}
 
 pub record SoundLog (l : Log) : Type 0 where

@@ -10,7 +10,7 @@ use Rattle.words.specs.declared.layout.Kind.the-variants.{Model}
 use Rattle.words.specs.Sets.{none, has, insert, remove}
 use Rattle.words.specs.Fields.{repositories, repositoryIn}
 use Rattle.words.specs.Copies.{copied}
-use Rattle.words.specs.Laws.Bools.{and-left, and-right, and-both, or-right}
+use Rattle.logic.specs.Laws.Bools.{and-left, and-right, and-both, or-right}
 use Rattle.words.specs.Laws.Sets.{has-insert}
 use Rattle.tables.specs.View.{isLive, labelAt}
 use Rattle.session.specs.declared.state.Session.{Session}
@@ -81,16 +81,16 @@ module _ (x : Session) (w k : List ℕ) (h : Sound x w k) where
           recording = h .session .recording;
           repositories = repository-opened (x .state .repositories) r (h .session .repositories) l;
           transaction = record { known = h .session .transaction .known; no-writing = h .session .transaction .no-writing; no-reading = h .session .transaction .no-reading };
-          access = λ m b. record { one = h .session .access m b .one; may = λ e. told m (h .session .access m b .may e) };
+          access = λ m b. record { one = h .session .access m b .one; may = λ e. by-cases m (h .session .access m b .may e) };
         })
         (h .session .log)
       where
         more : (n : ℕ) → has (x .state .repositories) n ≡ true → has (insert (x .state .repositories) r) n ≡ true
         more n e = has-insert (x .state .repositories) r n (omega arith) ∙ or-right (eqb n r) _ e
 
-        told : (m : ℕ) → mayAccess w (x .state) m ≡ true
+        by-cases : (m : ℕ) → mayAccess w (x .state) m ≡ true
             → (isLive w Model m && has (insert (x .state .repositories) r) (repositoryIn (labelAt w Model m))) ≡ true
-        told m e = and-both _ _ (and-left (isLive w Model m) _ e) (more _ (and-right (isLive w Model m) _ e))
+        by-cases m e = and-both _ _ (and-left (isLive w Model m) _ e) (more _ (and-right (isLive w Model m) _ e))
 
     -- ---- no transaction
 

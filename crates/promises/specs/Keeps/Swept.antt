@@ -2,25 +2,25 @@
 use mathlib.Core.Path.{_≡_, refl, sym, subst, _∙_}
 use mathlib.Core.Bool.{Bool, true, false, cond, _&&_}
 use mathlib.Core.Logic.{_⊎_, inl, inr, ⊎-elim}
-use mathlib.Core.List.{List, [], _∷_}
+use mathlib.Core.List.{List}
 use Prim.Native.Nat.{ℕ, zero, suc, _+_, _≤_, _<_}
 use native.Mathlib.Omega.{arith}
-use lib.ListN.{length, getD}
+use lib.ListN.{length}
 use borrow.Author.Tests.{eq-eqb, ne-eqb, lt-ltb}
 use Rattle.words.specs.declared.layout.Kind.{Kind}
 use Rattle.words.specs.declared.layout.Kind.the-variants.{Instance}
-use Rattle.words.specs.Layout.{words, countOf}
+use Rattle.words.specs.Layout.{words, strideOf, countOf}
 use Rattle.words.specs.Fields.{typeIn, values, flagged, withoutFlag}
-use Rattle.words.specs.Entries.{wordOf}
+use Rattle.words.specs.Entries.{wordOf, withoutEntry}
 use Rattle.words.specs.Laws.Fields.{Alike, alike-without, flagged-without}
-use Rattle.words.specs.Laws.Entries.{words-same}
+use Rattle.words.specs.Laws.Entries.{entry-zeros}
 use Rattle.dictionary.specs.Dictionary.{isReference, attributeOf}
 use Rattle.tables.specs.View.{headerAt, valueAt}
-use Rattle.tables.specs.References.{refers}
-use Rattle.tables.specs.Changes.{withFirst, withoutValue, detached, swept}
-use Rattle.promises.specs.Keeps.Tests.{clash}
+use Rattle.tables.specs.Edits.{withoutValue}
+use Rattle.tables.specs.Deletions.{refers, detached, swept}
+use Rattle.logic.specs.Laws.Bools.{clash}
 use Rattle.promises.specs.Keeps.Frame.{same-or-not, alike-same}
-use Rattle.promises.specs.Keeps.Edited.{Rest, words-rest, rest-then}
+use Rattle.promises.specs.Keeps.Edited.{Rest, entry-rest, rest-then}
 use Rattle.promises.specs.Keeps.Written.{written-header, written-value, written-others, written-rest}
 
 -- an instance by its words: attribute k is set and refers to an instance that goes
@@ -72,7 +72,7 @@ module _ (goes : ℕ → Bool) (i : ℕ) (here : i < countOf Instance) where
       alike = alike-then (headerAt t i) (headerAt before i) _ (r .alike) (rw gone-header (alike-without (headerAt before i) n hn));
       empty = λ e. gone-header ∙ nothing (headerAt before i) (r .empty e);
       later = λ k m l. moved k l (λ p. omega arith) (r .later k (omega arith) l);
-      earlier = λ k m l. told k m l (same-or-not k n);
+      earlier = λ k m l. by-cases k m l (same-or-not k n);
     }
       where
         nothing : (x : ℕ) → x ≡ 0 → withoutFlag x n ≡ 0
@@ -82,21 +82,21 @@ module _ (goes : ℕ → Bool) (i : ℕ) (here : i < countOf Instance) where
             → Same (wordOf t Instance i) (wordOf (withoutValue before i n) Instance i) k
         moved k l apart s = record { flag = other-flag k l apart ∙ s .flag; value = other-value k apart ∙ s .value }
 
-        told : (k : ℕ) → k < suc n → k < values → (k ≡ n) ⊎ (k ≡ n → ⊥)
+        by-cases : (k : ℕ) → k < suc n → k < values → (k ≡ n) ⊎ (k ≡ n → ⊥)
             → ((refers t goes i k ≡ false) × Same (wordOf t Instance i) (wordOf (withoutValue before i n) Instance i) k) ⊎ Unset (wordOf (withoutValue before i n) Instance i) k
-        told k m l (inl e) = inr (rw e (record { flag = unset-flag; value = written-value before i n 0 (withoutFlag (headerAt before i) n) here hn long }))
-        told k m l (inr e) =
+        by-cases k m l (inl e) = inr (rw e (record { flag = unset-flag; value = written-value before i n 0 (withoutFlag (headerAt before i) n) here hn long }))
+        by-cases k m l (inr e) =
             ⊎-elim (λ q. inl (q .0, moved k l e (q .1)))
             (λ u. inr (record { flag = other-flag k l e ∙ u .flag; value = other-value k e ∙ u .value }))
             (r .earlier k (omega arith) l)
 
     none-more : refers before goes i n ≡ false → Rid goes (suc n) (wordOf t Instance i) (wordOf before Instance i)
-    none-more stop = record { alike = r .alike; empty = r .empty; later = λ k m l. r .later k (omega arith) l; earlier = λ k m l. told k m l (same-or-not k n) }
+    none-more stop = record { alike = r .alike; empty = r .empty; later = λ k m l. r .later k (omega arith) l; earlier = λ k m l. by-cases k m l (same-or-not k n) }
       where
-        told : (k : ℕ) → k < suc n → k < values → (k ≡ n) ⊎ (k ≡ n → ⊥)
+        by-cases : (k : ℕ) → k < suc n → k < values → (k ≡ n) ⊎ (k ≡ n → ⊥)
             → ((refers t goes i k ≡ false) × Same (wordOf t Instance i) (wordOf before Instance i) k) ⊎ Unset (wordOf before Instance i) k
-        told k m l (inl e) = inl (rw e (sym same-refers ∙ stop, r .later n (omega arith) hn))
-        told k m l (inr e) = r .earlier k (omega arith) l
+        by-cases k m l (inl e) = inl (rw e (sym same-refers ∙ stop, r .later n (omega arith) hn))
+        by-cases k m l (inr e) = r .earlier k (omega arith) l
 
   -- an instance that stays
   pub record Detached (t t′ : List ℕ) (n : ℕ) : Type 0 where
@@ -127,11 +127,11 @@ pointwise p = λ i k. p k i
 pub record Sweep (goes : ℕ → Bool) (n : ℕ) (t t′ : List ℕ) : Type 0 where
   pub long : length t′ ≡ length t
   pub others : (kind : Kind) (i k : ℕ) → (Instance ≡ kind → i < n → ⊥) → wordOf t′ kind i k ≡ wordOf t kind i k
-  pub gone : (j : ℕ) → j < n → goes j ≡ true → (k : ℕ) → k < 5 → wordOf t′ Instance j k ≡ 0
+  pub gone : (j : ℕ) → j < n → goes j ≡ true → (k : ℕ) → k < strideOf Instance → wordOf t′ Instance j k ≡ 0
   pub stays : (j : ℕ) → j < n → goes j ≡ false → Rid goes values (wordOf t Instance j) (wordOf t′ Instance j)
 
 module _ (goes : ℕ → Bool) (n : ℕ) (t t′ t″ : List ℕ) (w : Sweep goes n t t′) (r : Rest t′ t″ Instance n)
-    (gone : goes n ≡ true → (k : ℕ) → k < 5 → wordOf t″ Instance n k ≡ 0)
+    (gone : goes n ≡ true → (k : ℕ) → k < strideOf Instance → wordOf t″ Instance n k ≡ 0)
     (stays : goes n ≡ false → Rid goes values (wordOf t′ Instance n) (wordOf t″ Instance n)) where
   earlier-same : (j : ℕ) → j < n → (k : ℕ) → wordOf t″ Instance j k ≡ wordOf t′ Instance j k
   earlier-same j l k = r .others Instance j k (λ e same. omega arith)
@@ -147,7 +147,7 @@ module _ (goes : ℕ → Bool) (n : ℕ) (t t′ t″ : List ℕ) (w : Sweep goe
     stays = λ j l g. told-stays j l g (same-or-not j n);
   }
     where
-      told-gone : (j : ℕ) → j < suc n → goes j ≡ true → (j ≡ n) ⊎ (j ≡ n → ⊥) → (k : ℕ) → k < 5 → wordOf t″ Instance j k ≡ 0
+      told-gone : (j : ℕ) → j < suc n → goes j ≡ true → (j ≡ n) ⊎ (j ≡ n → ⊥) → (k : ℕ) → k < strideOf Instance → wordOf t″ Instance j k ≡ 0
       told-gone j l g (inl e) k m = rw e (gone (rw e at g) k m)
       told-gone j l g (inr e) k m = earlier-same j (omega arith) k ∙ w .gone j (omega arith) g k m
 
@@ -157,19 +157,11 @@ module _ (goes : ℕ → Bool) (n : ℕ) (t t′ t″ : List ℕ) (w : Sweep goe
           subst (λ (f : ℕ → ℕ). Rid goes values (wordOf t Instance j) f)
           (sym (pointwise (earlier-same j (omega arith)))) (w .stays j (omega arith) g)
 
-zeros : (k : ℕ) → k < 5 → _≡_ {A = ℕ} (getD (0 ∷ 0 ∷ 0 ∷ 0 ∷ 0 ∷ []) k 0) 0
-zeros zero l = refl
-zeros (suc zero) l = refl
-zeros (suc (suc zero)) l = refl
-zeros (suc (suc (suc zero))) l = refl
-zeros (suc (suc (suc (suc zero)))) l = refl
-zeros (suc (suc (suc (suc (suc k))))) l = absurd (omega arith)
-
 one-swept : (goes : ℕ → Bool) (n : ℕ) (t t′ : List ℕ) → n < countOf Instance → words ≤ length t → Sweep goes n t t′ → (b : Bool)
-    → goes n ≡ b → Sweep goes (suc n) t (cond b (withFirst t′ Instance n 0) (detached t′ goes n values))
+    → goes n ≡ b → Sweep goes (suc n) t (cond b (withoutEntry t′ Instance n) (detached t′ goes n values))
 one-swept goes n t t′ here long w true e =
-    sweep-more goes n t t′ _ w (words-rest t′ Instance n _ 5)
-    (λ g k l. words-same t′ Instance n (0 ∷ 0 ∷ 0 ∷ 0 ∷ 0 ∷ []) 5 k l here (omega arith) (omega (arith, w .long)) ∙ zeros k l)
+    sweep-more goes n t t′ _ w (entry-rest t′ Instance n _)
+    (λ g k l. entry-zeros t′ Instance n 0 k l here (omega (arith, w .long)) (λ z. refl))
     (λ g. clash (goes n) e g)
 one-swept goes n t t′ here long w false e =
     let d : Detached goes n here t′ (detached t′ goes n values) values = detaches goes n here t′ values (omega arith) (omega (arith, w .long)) in

@@ -2,27 +2,27 @@
 use mathlib.Core.Path.{_≡_, refl, ap, _∙_}
 use mathlib.Core.Bool.{Bool, true, false, not, _&&_, _||_}
 use mathlib.Core.Logic.{_⊎_, inl, inr}
-use mathlib.Core.List.{List, [], _∷_}
-use Prim.Native.Nat.{ℕ, zero, suc, _<_}
+use mathlib.Core.List.{List}
+use Prim.Native.Nat.{ℕ, _+_, _<_}
 use native.Mathlib.Omega.{arith}
-use lib.ListN.{getD}
 use borrow.Author.Tests.{eq-eqb, ne-eqb}
+use Rattle.tables.specs.Laws.Sound.{SoundHeader, live-below}
 use Rattle.words.specs.declared.layout.Kind.the-variants.{Model, Instance}
 use Rattle.words.specs.Layout.{countOf}
 use Rattle.words.specs.Fields.{schemaIn, typeIn, modelIn, headerOf, values, flagged, withFlag, withoutFlag}
-use Rattle.words.specs.Entries.{wordOf, freeAt}
+use Rattle.words.specs.Entries.{wordOf, freeAt, withEntry}
 use Rattle.words.specs.Laws.Fields.{Header, header-is-live, type-of-header, model-of-header, no-flag, Alike, alike-with, alike-without, flagged-with, flagged-without}
-use Rattle.words.specs.Laws.Entries.{words-same}
+use Rattle.words.specs.Laws.Entries.{entry-first, entry-zeros}
 use Rattle.dictionary.specs.declared.answers.Attribute.{Attribute}
 use Rattle.dictionary.specs.declared.answers.Attribute.the-variants.{Lacking, Whole, Reference}
 use Rattle.dictionary.specs.Dictionary.{isType, schemaOf, attributeOf}
 use Rattle.tables.specs.View.{isLive, labelAt, headerAt, typeAt, modelAt, valueAt}
 use Rattle.tables.specs.Sound.{soundValue}
-use Rattle.tables.specs.Changes.{withFirst, withValue, withoutValue}
-use Rattle.promises.specs.Keeps.Tests.{clash}
-use Rattle.promises.specs.Keeps.Facts.{SoundHeader, SoundInstance, SoundTable}
-use Rattle.promises.specs.Keeps.Frame.{same-or-not, live-below, live-not-free, headed-stays, value-stays, Lasts}
-use Rattle.promises.specs.Keeps.Edited.{Rest, words-rest, instance-same-model, all-last, instance-edited}
+use Rattle.tables.specs.Edits.{withValue, withoutValue}
+use Rattle.logic.specs.Laws.Bools.{clash}
+use Rattle.promises.specs.Keeps.Facts.{SoundInstance, SoundTable}
+use Rattle.promises.specs.Keeps.Frame.{same-or-not, live-not-free, headed-stays, value-stays, Lasts}
+use Rattle.promises.specs.Keeps.Edited.{Rest, entry-rest, instance-same-model, all-last, instance-edited}
 use Rattle.promises.specs.Keeps.Written.{written, written-header, written-value, written-others, written-rest}
 
 -- an attribute that is not set is sound with a word that is 0
@@ -40,7 +40,7 @@ module _ (t : List ℕ) (n type model : ℕ) (h : SoundTable t) (l : n < countOf
   first = headerOf type model 0
 
   after : List ℕ
-  after = withFirst t Instance n first
+  after = withEntry t Instance n first
 
   below : model < countOf Model
   below = live-below t Model model live
@@ -57,20 +57,17 @@ module _ (t : List ℕ) (n type model : ℕ) (h : SoundTable t) (l : n < countOf
   unfolding first
   a-header = record { small = omega (arith, below); typed = omega arith; model = omega (arith, a-model, below) }
 
-  new : (k : ℕ) → k < 5 → wordOf after Instance n k ≡ getD (first ∷ 0 ∷ 0 ∷ 0 ∷ 0 ∷ []) k 0
+  new : headerAt after n ≡ first
   unfolding after
-  new k m = words-same t Instance n (first ∷ 0 ∷ 0 ∷ 0 ∷ 0 ∷ []) 5 k m l (omega arith) (h .long)
+  new = entry-first t Instance n first l (h .long)
 
   new-value : (k : ℕ) → k < values → valueAt after n k ≡ 0
-  new-value zero m = new 1 (omega arith)
-  new-value (suc zero) m = new 2 (omega arith)
-  new-value (suc (suc zero)) m = new 3 (omega arith)
-  new-value (suc (suc (suc zero))) m = new 4 (omega arith)
-  new-value (suc (suc (suc (suc k)))) m = absurd (omega arith)
+  unfolding after
+  new-value k m = entry-zeros t Instance n first (1 + k) (omega arith) l (h .long) (λ z. absurd (omega arith))
 
   rest : Rest t after Instance n
   unfolding after
-  rest = words-rest t Instance n _ 5
+  rest = entry-rest t Instance n _
 
   headed : SoundHeader after first
   headed = record {
@@ -80,14 +77,14 @@ module _ (t : List ℕ) (n type model : ℕ) (h : SoundTable t) (l : n < countOf
     schema = rw (a-model, instance-same-model t after n h rest model 0, a-type) schema;
   }
 
-  pub made-instance : SoundTable (withFirst t Instance n (headerOf type model 0))
+  pub made-instance : SoundTable (withEntry t Instance n (headerOf type model 0))
   unfolding after first
   made-instance =
       instance-edited t after n h rest
       (record {
         empty = λ e k m. new-value k m;
-        headed = λ e. rw (new 0 (omega arith)) headed;
-        valued = λ e k m. rw (new 0 (omega arith), new-value k m, no-flag type model k small (omega (arith, below)) m) (unset-sound after (attributeOf (typeIn first) k));
+        headed = λ e. rw new headed;
+        valued = λ e k m. rw (new, new-value k m, no-flag type model k small (omega (arith, below)) m) (unset-sound after (attributeOf (typeIn first) k));
       })
       (λ e. clash _ f (live-not-free t Instance n e))
 

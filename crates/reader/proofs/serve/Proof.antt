@@ -7,12 +7,18 @@ use borrow.Author.Tests.{ltb-true}
 use mathlib.Core.Path.{_≡_, refl, _∙_, ap}
 use Prim.Native.Nat.{_≤_, _<_, _-_, _*_}
 use lib.ListN.{length}
-use Rattle.words.specs.Laws.Bools.{and-right}
+use Rattle.logic.specs.Laws.Bools.{and-right}
 use Rattle.reader.proofs.serve.Statement.{statement}
 use Rattle.reader.proofs.serve.Tie as tie
 
 abbrev Inv-loop : tie.InvT-loop
-Inv-loop block₀ out₀ working₀ kept₀ run₀ turns₀ block out working kept run turns = (length block ≡ length block₀) × (length out ≡ length out₀) × (length working ≡ length working₀) × (length kept ≡ length kept₀) × (run .at ≡ 0) × (run .done ≤ 1024 * turns)
+Inv-loop block₀ out₀ working₀ kept₀ run₀ turns₀ block out working kept run turns =
+    (length block ≡ length block₀)
+    × (length out ≡ length out₀)
+    × (length working ≡ length working₀)
+    × (length kept ≡ length kept₀)
+    × (run .at ≡ 0)
+    × (run .done ≤ 1024 * turns)
 
 abbrev μ-loop : tie.MeasureT-loop
 μ-loop block₀ out₀ working₀ kept₀ run₀ turns₀ block out working kept run turns = 0x4_0000_0000_0000 - turns
@@ -20,25 +26,43 @@ abbrev μ-loop : tie.MeasureT-loop
 below : (c : tie.Then1 Inv-loop μ-loop) → c .before .before .loop .turns < 0x4_0000_0000_0000
 below c = ltb-true _ _ (and-right (c .before .before .loop .run .on) (ltb (c .before .before .loop .turns) 0x4_0000_0000_0000) (c .if1 .taken))
 
-fresh-requires : tie.Need-fresh-requires Inv-loop μ-loop
-fresh-requires c κs = search needs
-
 loop-holds : tie.Need-loop-holds Inv-loop μ-loop
 loop-holds c = let at = ap (λ (r : Run). r .at) (c .fresh .ensures) in
     let done : c .fresh .result .done ≡ 0 = ap (λ (r : Run). r .done) (c .fresh .ensures) in
     (refl, refl, refl, refl, at, omega arith)
 
 turn-requires : tie.Need-turn-requires Inv-loop μ-loop
-turn-requires c κs = (c .before .before .before .before .before .before .loop .inv .0 ∙ c .before .before .before .before .before .before .before .before .before .before .before .before .pre .0, c .before .before .before .before .before .before .loop .inv .1 ∙ c .before .before .before .before .before .before .before .before .before .before .before .before .pre .1, c .before .before .before .before .before .before .loop .inv .4, omega (arith, below (c .before .before .before .before), c .before .before .before .before .before .before .loop .inv .5))
+turn-requires c κs =
+    let place = c .before .before .before .before in
+    let loop = c .before .before .before .before .before .before .loop in
+    let earlier = c .before .before .before .before .before .before .before .before .before in
+    let pre = earlier .before .before .before .pre in
+    (loop .inv .0 ∙ pre .0, loop .inv .1 ∙ pre .1, loop .inv .4, omega (arith, below place, loop .inv .5))
 
 add-turns : tie.Need-add-turns Inv-loop μ-loop
-add-turns c = omega (arith, below (c .before .before .before .before .before .before .before .before .before .before .before .before .before))
+add-turns c =
+    let earlier = c .before .before .before .before .before .before .before .before .before in
+    let place = earlier .before .before .before .before in
+    omega (arith, below place)
 
 loop-less : tie.Need-loop-less Inv-loop μ-loop
-loop-less c = omega (arith, below (c .before .before .before .before .before .before .before .before .before .before .before .before .before))
+loop-less c =
+    let earlier = c .before .before .before .before .before .before .before .before .before in
+    let place = earlier .before .before .before .before in
+    omega (arith, below place)
 
 loop-again : tie.Need-loop-again Inv-loop μ-loop
-loop-again c = (c .before .before .before .before .before .before .before .before .turn .kept .1 .0 ∙ c .before .before .before .before .before .before .before .before .before .before .before .before .before .before .before .loop .inv .0, c .before .before .before .before .before .before .before .before .turn .kept .1 .1 .0 ∙ c .before .before .before .before .before .before .before .before .before .before .before .before .before .before .before .loop .inv .1, c .before .before .before .before .before .before .before .before .turn .kept .1 .1 .1 .0 ∙ c .before .before .before .before .before .before .before .before .before .before .before .before .before .before .before .loop .inv .2, c .before .before .before .before .before .before .before .before .turn .kept .1 .1 .1 .1 .0 ∙ c .before .before .before .before .before .before .before .before .before .before .before .before .before .before .before .loop .inv .3, c .before .before .before .before .before .before .before .before .turn .ensures .0, omega (arith, c .before .before .before .before .before .before .before .before .turn .ensures .1, c .before .before .before .before .before .before .before .before .before .before .before .before .before .before .before .loop .inv .5))
+loop-again c =
+    let turn = c .before .before .before .before .before .before .before .before .turn in
+    let earlier = c .before .before .before .before .before .before .before .before .before in
+    let loop = earlier .before .before .before .before .before .before .loop in (
+      turn .kept .1 .0 ∙ loop .inv .0,
+      turn .kept .1 .1 .0 ∙ loop .inv .1,
+      turn .kept .1 .1 .1 .0 ∙ loop .inv .2,
+      turn .kept .1 .1 .1 .1 .0 ∙ loop .inv .3,
+      turn .ensures .0,
+      omega (arith, turn .ensures .1, loop .inv .5),
+    )
 
 same-length : tie.Need-same-length Inv-loop μ-loop
 same-length c = c .before .before .loop .inv .0
@@ -52,16 +76,13 @@ same-length-3 c = c .before .before .loop .inv .2
 same-length-4 : tie.Need-same-length-4 Inv-loop μ-loop
 same-length-4 c = c .before .before .loop .inv .3
 
-returns : tie.Need-returns Inv-loop μ-loop
-returns c = search needs
-
 pub serve-spec : {M : Type 1} → statement M
 serve-spec =
     tie.close
     (tie.spec
     Inv-loop
     μ-loop
-    fresh-requires
+    (λ c. search needs)
     loop-holds
     turn-requires
     add-turns
@@ -71,4 +92,4 @@ serve-spec =
     same-length-2
     same-length-3
     same-length-4
-    returns)
+    (λ c. search needs))

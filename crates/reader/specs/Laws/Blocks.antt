@@ -9,7 +9,7 @@ use lib.Dec.{leb}
 use lib.ListN.{length, take, drop, length-drop, length-take}
 use lib.Seq.{drop-drop, take-nil}
 use borrow.Author.Tests.{leb-true}
-use Rattle.words.specs.Laws.Bools.{and-left}
+use Rattle.logic.specs.Laws.Bools.{and-left}
 use Rattle.records.specs.declared.decoding.Found.the-variants.{Whole, Bad}
 use Rattle.records.specs.Records.{size, marked, fieldsOf, recordOf}
 use Rattle.records.specs.declared.decoding.Record.{Record}
@@ -75,6 +75,28 @@ part-length from got bytes h = simp (length-take, length-drop) (omega arith)
 
 pub next-part : (bytes : List ℕ) (from got : ℕ) → drop size (take (got - from) (drop from bytes)) ≡ take (got - (from + size)) (drop (from + size) bytes)
 next-part bytes from got = drop-take size (got - from) (drop from bytes) ∙ rw (drop-drop size from bytes) (ap (λ (k : ℕ). take k (drop (from + size) bytes)) (sym (sub-add-eq got from size)))
+
+-- the part of a block from one position to another
+abbrev pub partOf : List ℕ → ℕ → ℕ → List ℕ
+partOf block from got = take (got - from) (drop from block)
+
+-- its first record leaves the program at y: it stops there, or it goes on behind that record
+module _ (block : List ℕ) (from got : ℕ) (x y : Here) (some : from < got) (long : got ≤ length block)
+    (e : y ≡ afterFound (recordOf (partOf block from got)) x) where
+  there : 0 < length (partOf block from got)
+  there = omega (arith, part-length from got block long)
+
+  pub part-last : y .on ≡ false → y ≡ afterBytes (partOf block from got) x
+  part-last off = e ∙ sym (bytes-last (partOf block from got) x there (rw e at off))
+
+  pub part-whole : y .on ≡ true → from + size ≤ got
+  part-whole on = omega (arith, part-length from got block long, whole-record (partOf block from got) x (rw e at on))
+
+  pub part-more : y .on ≡ true → afterBytes (partOf block (from + size) got) y ≡ afterBytes (partOf block from got) x
+  part-more on =
+      ap (λ (l : List ℕ). afterBytes l y) (sym (next-part block from got))
+      ∙ ap (afterBytes (drop size (partOf block from got))) e
+      ∙ sym (bytes-more (partOf block from got) x there (rw e at on))
 
 -- ---- one line more
 

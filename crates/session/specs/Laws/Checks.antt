@@ -1,29 +1,18 @@
--- The first refusal of a list of checks: past a check whose condition fails, at one whose condition holds, and of two lists
--- one after the other.
+-- The first refusal of two lists of checks, one after the other: the gate's and the operation's own.
 use mathlib.Core.Path.{_≡_, refl, _∙_}
 use mathlib.Core.Bool.{Bool, true, false, cond, not, _&&_}
 use mathlib.Core.List.{List, [], _∷_, _++_}
 use Prim.Native.Nat.{ℕ}
 use lib.Dec.{eqb}
 use borrow.Author.Tests.{not-true, eq-eqb, ne-eqb}
-use Rattle.words.specs.Laws.Bools.{and-left, and-right}
+use Rattle.logic.specs.Laws.Bools.{and-left, and-right}
 use Rattle.session.specs.Refusals.{done}
-use Rattle.session.specs.declared.operations.Family.{Family}
-use Rattle.session.specs.declared.operations.Family.the-variants as family
+use Rattle.session.specs.declared.operations.Operation.{Operation}
+use Rattle.session.specs.declared.operations.Operation.the-variants.{Unlisted, Opening, InSession, Reader, Writer}
 use Rattle.session.specs.declared.state.State.{State}
-use Rattle.session.specs.Checks.{Check, _gives_, firstOf, gate}
-
-pub passed : (b : Bool) (n : ℕ) (rest : List Check) → b ≡ false → firstOf (b gives n ∷ rest) ≡ firstOf rest
-unfolding firstOf
-passed b n rest e = rw e
-
-pub stopped : (b : Bool) (n : ℕ) (rest : List Check) → b ≡ true → firstOf (b gives n ∷ rest) ≡ n
-unfolding firstOf
-stopped b n rest e = rw e
-
-pub no-more : firstOf [] ≡ done
-unfolding firstOf
-no-more = refl
+use Rattle.session.specs.Checks.{Check, firstOf, gate}
+use Rattle.session.specs.Effects.{refuses}
+use Rattle.session.specs.Rows.{rowOf, checks, refusalOf, rowDone, performed}
 
 -- every check of the list refuses with a number of its own
 abbrev pub refusing : List Check → Bool
@@ -53,9 +42,19 @@ module _ (xs ys : List Check) (r : ℕ) (numbered : refusing xs ≡ true) (is : 
   pub first-goes-on : r ≡ done → firstOf (xs ++ ys) ≡ firstOf ys
   first-goes-on h = first-append xs ys numbered ∙ rw (← is, eq-eqb r done h)
 
-pub gate-refuses : (f : Family) (s : State) → refusing (gate f s) ≡ true
-gate-refuses family.Unlisted s = refl
-gate-refuses family.Opening s = refl
-gate-refuses family.Session s = refl
-gate-refuses family.Reader s = refl
-gate-refuses family.Writer s = refl
+pub gate-refuses : (o : Operation) (s : State) → refusing (gate o s) ≡ true
+gate-refuses Unlisted s = refl
+gate-refuses Opening s = refl
+gate-refuses (InSession o) s = refl
+gate-refuses (Reader o) s = refl
+gate-refuses (Writer o) s = refl
+
+-- what a call does where the gate refuses it, and where it does not
+module _ (o : Operation) (a b c : ℕ) (s : State) (w : List ℕ) (r : ℕ) (is : r ≡ firstOf (gate o s)) where
+  pub gate-stops : (r ≡ done → ⊥) → performed o a b c s w ≡ refuses r s
+  unfolding refusalOf
+  gate-stops h = rw (first-stops (gate o s) (checks o a b c s w) r (gate-refuses o s) is h, ne-eqb r done h)
+
+  pub gate-passes : r ≡ done → performed o a b c s w ≡ rowDone s (rowOf o a b c s w)
+  unfolding refusalOf
+  gate-passes h = rw (first-goes-on (gate o s) (checks o a b c s w) r (gate-refuses o s) is h)

@@ -6,9 +6,9 @@ use Prim.Native.Nat.{ℕ, _≤_, _<_}
 use native.Mathlib.Omega.{arith}
 use lib.Dec.{leb}
 use borrow.Author.Tests.{ne-eqb, leb-true}
-use Rattle.words.specs.Search.{allB}
-use Rattle.words.specs.Laws.Bools.{and-left, and-right}
-use Rattle.words.specs.Laws.Search.{all-at}
+use Rattle.logic.specs.Search.{allB}
+use Rattle.logic.specs.Laws.Bools.{and-left, and-right}
+use Rattle.logic.specs.Laws.Search.{all-at}
 use Rattle.session.specs.declared.operations.Operation.{Operation}
 use Rattle.session.specs.declared.operations.Operation.the-variants as operation
 use Rattle.session.specs.Operations.{Numbered, listed, lookup, operationOf}
@@ -39,72 +39,22 @@ past-the-list n l = above last n listed refl l
 
 -- a number below the list's end that is none of it
 abbrev isUnlisted : Operation → Bool
-isUnlisted operation.OpenSession = false
-isUnlisted operation.CloseSession = false
-isUnlisted operation.OpenRepository = false
-isUnlisted operation.CloseRepository = false
-isUnlisted operation.StartReadWrite = false
-isUnlisted operation.StartReadOnly = false
-isUnlisted operation.Commit = false
-isUnlisted operation.Abort = false
-isUnlisted operation.EndCommit = false
-isUnlisted operation.EndAbort = false
-isUnlisted operation.StartRecording = false
-isUnlisted operation.StopRecording = false
-isUnlisted operation.StorageFault = false
-isUnlisted operation.CreateModel = false
-isUnlisted operation.DeleteModel = false
-isUnlisted operation.ReadOnlyAccess = false
-isUnlisted operation.ReadWriteAccess = false
-isUnlisted operation.EndAccess = false
-isUnlisted operation.CreateSchemaInstance = false
-isUnlisted operation.DeleteSchemaInstance = false
-isUnlisted operation.AddModel = false
-isUnlisted operation.RemoveModel = false
-isUnlisted operation.CreateInstance = false
-isUnlisted operation.DeleteInstance = false
-isUnlisted operation.Get = false
-isUnlisted operation.Test = false
-isUnlisted operation.Put = false
-isUnlisted operation.Unset = false
-isUnlisted operation.IsSubtype = false
 isUnlisted operation.Unlisted = true
+isUnlisted operation.Opening = false
+isUnlisted (operation.InSession o) = false
+isUnlisted (operation.Reader o) = false
+isUnlisted (operation.Writer o) = false
 
-told : (o : Operation) → isUnlisted o ≡ true → o ≡ operation.Unlisted
-told operation.OpenSession e = absurd (false≢true e)
-told operation.CloseSession e = absurd (false≢true e)
-told operation.OpenRepository e = absurd (false≢true e)
-told operation.CloseRepository e = absurd (false≢true e)
-told operation.StartReadWrite e = absurd (false≢true e)
-told operation.StartReadOnly e = absurd (false≢true e)
-told operation.Commit e = absurd (false≢true e)
-told operation.Abort e = absurd (false≢true e)
-told operation.EndCommit e = absurd (false≢true e)
-told operation.EndAbort e = absurd (false≢true e)
-told operation.StartRecording e = absurd (false≢true e)
-told operation.StopRecording e = absurd (false≢true e)
-told operation.StorageFault e = absurd (false≢true e)
-told operation.CreateModel e = absurd (false≢true e)
-told operation.DeleteModel e = absurd (false≢true e)
-told operation.ReadOnlyAccess e = absurd (false≢true e)
-told operation.ReadWriteAccess e = absurd (false≢true e)
-told operation.EndAccess e = absurd (false≢true e)
-told operation.CreateSchemaInstance e = absurd (false≢true e)
-told operation.DeleteSchemaInstance e = absurd (false≢true e)
-told operation.AddModel e = absurd (false≢true e)
-told operation.RemoveModel e = absurd (false≢true e)
-told operation.CreateInstance e = absurd (false≢true e)
-told operation.DeleteInstance e = absurd (false≢true e)
-told operation.Get e = absurd (false≢true e)
-told operation.Test e = absurd (false≢true e)
-told operation.Put e = absurd (false≢true e)
-told operation.Unset e = absurd (false≢true e)
-told operation.IsSubtype e = absurd (false≢true e)
-told operation.Unlisted e = refl
+is-unlisted : (o : Operation) → isUnlisted o ≡ true → o ≡ operation.Unlisted
+is-unlisted operation.Unlisted e = refl
+is-unlisted operation.Opening e = absurd (false≢true e)
+is-unlisted (operation.InSession o) e = absurd (false≢true e)
+is-unlisted (operation.Reader o) e = absurd (false≢true e)
+is-unlisted (operation.Writer o) e = absurd (false≢true e)
 
 -- where a computed test says that every number below n is in the list or among those left out of it
 pub between : (n : ℕ) (others : ℕ → Bool) → allB n (λ i. others i || isUnlisted (operationOf i)) ≡ true → (i : ℕ) → i < n → others i ≡ false → operationOf i ≡ operation.Unlisted
-between n others e i l h = told (operationOf i) (rest (others i) (isUnlisted (operationOf i)) h (all-at n (λ j. others j || isUnlisted (operationOf j)) e i l))
+between n others e i l h = is-unlisted (operationOf i) (rest (others i) (isUnlisted (operationOf i)) h (all-at n (λ j. others j || isUnlisted (operationOf j)) e i l))
   where
     rest : (a b : Bool) → a ≡ false → (a || b) ≡ true → b ≡ true
     rest true b p q = absurd (false≢true (sym p))

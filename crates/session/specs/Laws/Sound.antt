@@ -10,26 +10,26 @@ use lib.ListN.{length, getD}
 use borrow.Author.Tests.{eq-eqb}
 use Rattle.words.specs.declared.layout.Kind.the-variants.{Model}
 use Rattle.words.specs.Layout.{words, placeOf}
-use Rattle.words.specs.Search.{allB}
+use Rattle.logic.specs.Search.{allB}
 use Rattle.words.specs.Sets.{bits, none, has}
-use Rattle.words.specs.Laws.Bools.{and-left}
-use Rattle.words.specs.Laws.Decides.{equal, at-most, denied, every, restated, same-test}
+use Rattle.logic.specs.Laws.Bools.{and-left}
+use Rattle.logic.specs.Laws.Decides.{equal, at-most, denied, every, restated, same-test, itself}
 use Rattle.words.specs.Laws.Sets.{has-none, set-member, none-is-empty}
 use Rattle.words.specs.Laws.Entries.{entry-test}
 use Rattle.tables.specs.View.{labelAt}
 use Rattle.tables.specs.Sound.{soundTable, soundTables}
-use Rattle.tables.specs.Laws.Tests.{itself, all-same, all-both}
+use Rattle.logic.specs.Laws.Search.{all-same, all-both}
 use Rattle.tables.specs.Laws.Live.{has-and, within-by-and}
 use Rattle.session.specs.declared.state.Event.{Event}
 use Rattle.session.specs.declared.state.State.{State}
 use Rattle.session.specs.States.{places, blankEvent}
 use Rattle.session.specs.Sound.{soundPlace, soundPlaces, maySee, soundAccess}
-use Rattle.session.specs.Access.{seenAt, inOpen}
+use Rattle.session.specs.Quick.Access.{seenAt, inOpen}
 
 -- "Both tables have at least 736 words."
 pub sound-long : (writing : Bool) (working kept : List ℕ) → soundTables writing working kept ≡ true → words ≤ length working
 unfolding soundTables soundTable
-sound-long writing working kept h = at-most words (length working) .holds (and-left _ _ (and-left _ _ (and-left _ _ (and-left _ _ (and-left _ _ (and-left _ _ (and-left _ _ h)))))))
+sound-long writing working kept h = at-most words (length working) .holds (and-left _ _ (and-left _ _ (and-left _ _ (and-left _ _ h))))
 
 -- ---- the log
 

@@ -7,13 +7,13 @@ use native.Mathlib.Decide.{decLt}
 use native.Mathlib.Omega.{arith}
 use lib.Dec.{eqb}
 use borrow.Author.Tests.{lt-ltb, le-ltb, eq-eqb, ne-eqb, eqb-true, eqb-false}
-use Rattle.words.specs.declared.layout.Kind.the-variants.{Instance}
+use Rattle.words.specs.declared.layout.Kind.the-variants.{Model, Instance}
 use Rattle.words.specs.Layout.{countOf}
 use Rattle.words.specs.Sets.{bits, none, has, insert}
 use Rattle.words.specs.Laws.Sets.{has-insert, has-none, set-member}
 use Rattle.tables.specs.declared.going.Going.{Going}
-use Rattle.tables.specs.References.{theInstance, thoseOf}
-use Rattle.tables.specs.Going.{goes, nothing, withNumber, oneGoing, halfOf, gathered}
+use Rattle.tables.specs.Deletions.{goesWith, swept}
+use Rattle.tables.specs.Quick.Going.{goes, nothing, withNumber, oneGoing, halfOf, gathered}
 
 -- where a number stands
 data Zone (j : ℕ) : Type 0 where
@@ -89,10 +89,10 @@ module _ (g : Going) (j n : ℕ) where
       at (past l) = absurd (omega arith)
 
 -- **An instance that is deleted goes, and no other does**, whatever its number.
-pub goes-one : (i : ℕ) → goes (oneGoing i) ≡ theInstance i
-goes-one i = fun-ext (λ n. at n (zone i) (zone n))
+pub goes-one : (t : List ℕ) (i : ℕ) → goes (oneGoing i) ≡ goesWith t Instance i
+goes-one t i = fun-ext (λ n. at n (zone i) (zone n))
   where
-    alone : (b : Bool) (n : ℕ) → b ≡ false → (eqb n i || b) ≡ theInstance i n
+    alone : (b : Bool) (n : ℕ) → b ≡ false → (eqb n i || b) ≡ goesWith t Instance i n
     alone b n e = rw e (or-false (eqb n i))
 
     beyond-it : (n : ℕ) → countOf Instance ≤ i → goes (oneGoing i) n ≡ goes (record { low = none; high = none; beyond = i }) n
@@ -100,7 +100,7 @@ goes-one i = fun-ext (λ n. at n (zone i) (zone n))
         let above : bits ≤ i = omega arith in
         rw (le-ltb i bits above, le-ltb i (countOf Instance) h)
 
-    at : (n : ℕ) → Zone i → Zone n → goes (oneGoing i) n ≡ theInstance i n
+    at : (n : ℕ) → Zone i → Zone n → goes (oneGoing i) n ≡ goesWith t Instance i n
     at n (in-low h) w = goes-with nothing i n (omega arith) ∙ alone (goes nothing n) n (goes-nothing n)
     at n (in-high h l) w = goes-with nothing i n l ∙ alone (goes nothing n) n (goes-nothing n)
     at n (past h) (in-low l) = beyond-it n h ∙ goes-low _ n l ∙ has-none n ∙ sym (ne-eqb n i (λ e. omega arith))
@@ -108,14 +108,22 @@ goes-one i = fun-ext (λ n. at n (zone i) (zone n))
     at n (past h) (past l) = beyond-it n h ∙ goes-past _ n l
 
 -- **The instances of a model that is deleted go, and no others do.**
-pub goes-those : (t : List ℕ) (m : ℕ) → goes (gathered t m) ≡ thoseOf t m
+pub goes-those : (t : List ℕ) (m : ℕ) → goes (gathered t m) ≡ goesWith t Model m
 goes-those t m = fun-ext (λ j. at j (zone j))
   where
     -- instance j is number k of its half
-    member : (from k j : ℕ) → k < bits → from + k ≡ j → has (halfOf t m from) k ≡ thoseOf t m j
-    member from k j h e = set-member (λ i. thoseOf t m (from + i)) bits k (omega arith) h ∙ ap (thoseOf t m) e
+    member : (from k j : ℕ) → k < bits → from + k ≡ j → has (halfOf t m from) k ≡ goesWith t Model m j
+    member from k j h e = set-member (λ i. goesWith t Model m (from + i)) bits k (omega arith) h ∙ ap (goesWith t Model m) e
 
-    at : (j : ℕ) → Zone j → goes (gathered t m) j ≡ thoseOf t m j
+    at : (j : ℕ) → Zone j → goes (gathered t m) j ≡ goesWith t Model m j
     at j (in-low h) = goes-low (gathered t m) j h ∙ member 0 j j h (omega arith)
     at j (in-high h l) = goes-high (gathered t m) j h l ∙ member bits (j - bits) j (omega arith) (omega arith)
     at j (past h) = goes-past (gathered t m) j h ∙ ne-eqb j 0 (λ e. omega arith) ∙ sym (rw (le-ltb j (countOf Instance) h))
+
+-- so the sweep by the set is the sweep of the definition
+module _ (t : List ℕ) where
+  pub swept-one : (i : ℕ) → swept t (goes (oneGoing i)) (countOf Instance) ≡ swept t (goesWith t Instance i) (countOf Instance)
+  swept-one i = ap (λ (f : ℕ → Bool). swept t f (countOf Instance)) (goes-one t i)
+
+  pub swept-those : (m : ℕ) → swept t (goes (gathered t m)) (countOf Instance) ≡ swept t (goesWith t Model m) (countOf Instance)
+  swept-those m = ap (λ (f : ℕ → Bool). swept t f (countOf Instance)) (goes-those t m)

@@ -11,25 +11,24 @@ use lib.ListN.{length, getD, set, length-set}
 use Rattle.words.specs.declared.layout.Kind.{Kind}
 use Rattle.words.specs.declared.layout.Kind.the-variants.{Model, SchemaInstance, Instance}
 use Rattle.words.specs.Layout.{words, baseOf, strideOf, countOf, placeOf}
-use Rattle.words.specs.Search.{allB}
+use Rattle.logic.specs.Search.{allB}
 use Rattle.words.specs.Sets.{none, bits, has, setOf}
 use Rattle.words.specs.Fields.{schemaIn, isLabel}
-use Rattle.words.specs.Entries.{inEntry, wordOf, freeAt}
+use Rattle.words.specs.Entries.{inEntry, wordOf, freeAt, formed, allFormed}
 use Rattle.words.specs.Copies.{isLong, sameAt}
-use Rattle.words.specs.Laws.Bools.{and-left, and-ended, or-right}
-use Rattle.words.specs.Laws.Decides.{equal, every}
-use Rattle.words.specs.Laws.Search.{all-more, all-at, all-from, all-stop, all-done}
+use Rattle.logic.specs.Laws.Bools.{and-left, and-ended, or-right}
+use Rattle.logic.specs.Laws.Decides.{equal, every}
+use Rattle.logic.specs.Laws.Search.{all-more, all-at, all-from, all-stop, all-done, all-same}
 use Rattle.words.specs.Laws.Layout.{stride-positive}
 use Rattle.words.specs.Laws.Fields.{label-test}
 use Rattle.words.specs.Laws.Entries.{entry-test}
 use Rattle.tables.specs.declared.live.Live.{Live}
 use Rattle.tables.specs.declared.labels.Tested.the-variants.{Sound, Unsound}
 use Rattle.tables.specs.View.{labelAt, setAt}
-use Rattle.tables.specs.Sound.{distinct, mayJoin, soundGroup, soundInstance, soundTable}
-use Rattle.tables.specs.Names.{isNew, buckets, bucketOf}
-use Rattle.tables.specs.Live.{isOf, liveOf, liveBelow, liveIn, noLive, withLive}
-use Rattle.tables.specs.Labels.{labelled, soundLabels, tested, testedLabels, soundEntries, sameEntries}
-use Rattle.tables.specs.Laws.Tests.{all-same}
+use Rattle.tables.specs.Sound.{distinct, mayJoin, soundGroup, soundEntries, soundInstances, soundTable}
+use Rattle.tables.specs.Quick.Names.{isNew, buckets, bucketOf}
+use Rattle.tables.specs.Quick.Live.{isOf, liveOf, liveBelow, liveIn, noLive, withLive}
+use Rattle.tables.specs.Quick.Labels.{labelled, soundLabels, tested, testedLabels, sameEntries}
 use Rattle.tables.specs.Laws.Sound.{distinct-alike, group-alike}
 use Rattle.tables.specs.Laws.Names.{free-is-new, Filled, filled-free, filled-more}
 use Rattle.tables.specs.Laws.Live.{live-free, live-more}
@@ -115,35 +114,42 @@ unsound-told false all e = refl
 -- a group that is sound has a label
 group-labelled : (t : List ℕ) (s : ℕ) → soundGroup t s ≡ true → labelled t SchemaInstance s ≡ true
 unfolding soundGroup
-group-labelled t s h = told (freeAt t SchemaInstance s) h
+group-labelled t s h = by-cases (freeAt t SchemaInstance s) h
   where
-    told : (b : Bool) → cond b (eqb (setAt t s) none) (isLabel (labelAt t SchemaInstance s) && allB bits (λ m. not (has (setAt t s) m) || mayJoin t s m)) ≡ true → (b || isLabel (labelAt t SchemaInstance s)) ≡ true
-    told true e = refl
-    told false e = and-left (isLabel (labelAt t SchemaInstance s)) _ e
+    by-cases : (b : Bool) → cond b (eqb (setAt t s) none) (isLabel (labelAt t SchemaInstance s) && allB bits (λ m. not (has (setAt t s) m) || mayJoin t s m)) ≡ true
+        → (b || isLabel (labelAt t SchemaInstance s)) ≡ true
+    by-cases true e = refl
+    by-cases false e = and-left (isLabel (labelAt t SchemaInstance s)) _ e
 
-regrouped : (l a b g d f i : Bool) → (g ≡ true → f ≡ true) → (l && a && b && g && d && i) ≡ (l && (a && b && (f && d) && g) && i)
-regrouped false a b g d f i h = refl
-regrouped true false b g d f i h = refl
-regrouped true true false g d f i h = refl
-regrouped true true true false d f i h = rw (and-ended (f && d) false refl)
-regrouped true true true true d f i h = rw (h refl, and-true d)
+regrouped : (a b g d f : Bool) → (g ≡ true → f ≡ true) → (a && b && g && d) ≡ (a && b && (f && d) && g)
+regrouped false b g d f h = refl
+regrouped true false g d f h = refl
+regrouped true true false d f h = rw (and-ended (f && d) false refl)
+regrouped true true true d f h = rw (h refl, and-true d)
 
-table-parts : (t : List ℕ) → soundTable t ≡ (isLong t && soundEntries t && allB (countOf Instance) (soundInstance t))
-unfolding soundTable
-table-parts t = regrouped (isLong t) _ _ _ (distinct t SchemaInstance) (allB (countOf SchemaInstance) (labelled t SchemaInstance)) _ (λ h. all-from (countOf SchemaInstance) (labelled t SchemaInstance) (λ s l. group-labelled t s (all-at (countOf SchemaInstance) (soundGroup t) h s l)))
+-- the labels first, then the sets
+pub entries-by-labels : (t : List ℕ) → soundEntries t ≡ (soundLabels t Model && soundLabels t SchemaInstance && allB (countOf SchemaInstance) (soundGroup t))
+entries-by-labels t =
+    regrouped (allFormed t Model) (distinct t Model) (allB (countOf SchemaInstance) (soundGroup t)) (distinct t SchemaInstance)
+    (allB (countOf SchemaInstance) (labelled t SchemaInstance))
+    (λ h. all-from (countOf SchemaInstance) (labelled t SchemaInstance) (λ s l. group-labelled t s (all-at (countOf SchemaInstance) (soundGroup t) h s l)))
 
 module _ (t : List ℕ) where
   pub short-unsound : isLong t ≡ false → soundTable t ≡ false
-  short-unsound e = table-parts t ∙ rw (e)
+  unfolding soundTable
+  short-unsound e = rw (e)
 
   pub entries-unsound : soundEntries t ≡ false → soundTable t ≡ false
-  entries-unsound e = table-parts t ∙ rw (and-ended (isLong t) (soundEntries t) e)
+  unfolding soundTable
+  entries-unsound e = rw (and-ended (isLong t) (soundEntries t) e)
 
-  pub instances-unsound : allB (countOf Instance) (soundInstance t) ≡ false → soundTable t ≡ false
-  instances-unsound e = table-parts t ∙ and-ended (isLong t && soundEntries t) (allB (countOf Instance) (soundInstance t)) e
+  pub instances-unsound : soundInstances t ≡ false → soundTable t ≡ false
+  unfolding soundTable
+  instances-unsound e = and-ended (isLong t && soundEntries t) (soundInstances t) e
 
-  pub sound-by-instances : words ≤ length t → soundEntries t ≡ true → allB (countOf Instance) (soundInstance t) ≡ soundTable t
-  sound-by-instances long e = rw (table-parts t, le-leb words (length t) long, e)
+  pub sound-by-instances : words ≤ length t → soundEntries t ≡ true → soundInstances t ≡ soundTable t
+  unfolding soundTable
+  sound-by-instances long e = rw (le-leb words (length t) long, e)
 
 -- ---- tables that are the same before the first instance
 
@@ -152,11 +158,11 @@ module _ (a b : List ℕ) (same : sameEntries a b ≡ true) where
   alike = every (baseOf Instance) (sameAt a b) (λ j. getD a j 0 ≡ getD b j 0) (λ j. equal (getD a j 0) (getD b j 0)) .holds same
 
   entry-alike : (kind : Kind) → ((i k : ℕ) → i < countOf kind → k < strideOf kind → placeOf kind i + k < baseOf Instance) → (i k : ℕ) → wordOf a kind i k ≡ wordOf b kind i k
-  entry-alike kind early i k = told (inEntry kind i k) refl
+  entry-alike kind early i k = by-cases (inEntry kind i k) refl
     where
-      told : (c : Bool) → inEntry kind i k ≡ c → cond c (getD a (placeOf kind i + k) 0) 0 ≡ cond c (getD b (placeOf kind i + k) 0) 0
-      told false e = refl
-      told true e = alike (placeOf kind i + k) (early i k (entry-test kind i k .holds e .0) (entry-test kind i k .holds e .1))
+      by-cases : (c : Bool) → inEntry kind i k ≡ c → cond c (getD a (placeOf kind i + k) 0) 0 ≡ cond c (getD b (placeOf kind i + k) 0) 0
+      by-cases false e = refl
+      by-cases true e = alike (placeOf kind i + k) (early i k (entry-test kind i k .holds e .0) (entry-test kind i k .holds e .1))
 
   model-alike : (i k : ℕ) → wordOf a Model i k ≡ wordOf b Model i k
   model-alike = entry-alike Model (λ i k hi hk. omega arith)
@@ -170,8 +176,15 @@ module _ (a b : List ℕ) (same : sameEntries a b ≡ true) where
   pub live-alike : liveIn a Model ≡ liveIn b Model
   live-alike = rw (live-of-alike 1 (countOf Model), live-of-alike 2 (countOf Model))
 
-  labels-alike : (kind : Kind) → ((i k : ℕ) → wordOf a kind i k ≡ wordOf b kind i k) → soundLabels a kind ≡ soundLabels b kind
-  labels-alike kind words-alike = rw (distinct-alike a b kind words-alike, all-same (countOf kind) (labelled a kind) (labelled b kind) (λ i l. rw (words-alike i 0)))
+  formed-alike : allFormed a Model ≡ allFormed b Model
+  formed-alike = all-same (countOf Model) (λ i. formed Model (labelAt a Model i)) (λ i. formed Model (labelAt b Model i)) (λ i l. rw (model-alike i 0))
 
   pub entries-alike : soundEntries a ≡ soundEntries b
-  entries-alike = rw (labels-alike Model model-alike, labels-alike SchemaInstance set-alike, all-same (countOf SchemaInstance) (soundGroup a) (soundGroup b) (λ s l. group-alike a b model-alike set-alike s))
+  entries-alike =
+      rw (
+        formed-alike,
+        distinct-alike a b Model model-alike,
+        distinct-alike a b SchemaInstance set-alike,
+        all-same (countOf SchemaInstance) (soundGroup a) (soundGroup b)
+            (λ s l. group-alike a b model-alike set-alike s),
+      )

@@ -16,17 +16,17 @@ use Rattle.words.specs.Layout.{countOf}
 use Rattle.words.specs.Sets.{bits, bitOf, has, insert, setOf}
 use Rattle.words.specs.Fields.{schemaIn, typeIn, modelIn, isLabel}
 use Rattle.words.specs.Entries.{freeAt}
-use Rattle.words.specs.Laws.Bools.{and-right}
-use Rattle.words.specs.Laws.Decides.{equal, every, restated, same-test}
+use Rattle.logic.specs.Laws.Bools.{and-right}
+use Rattle.logic.specs.Laws.Decides.{equal, every, restated, same-test, itself, implied}
 use Rattle.words.specs.Laws.Sets.{has-past, set-later, set-member, same-members}
 use Rattle.words.specs.Laws.Fields.{Label, label-test, label-is-live}
 use Rattle.dictionary.specs.Dictionary.{isType, schemaOf}
-use Rattle.dictionary.specs.TypeLaws.{type-schema}
+use Rattle.dictionary.specs.Laws.Types.{type-schema}
 use Rattle.tables.specs.declared.live.Live.{Live}
 use Rattle.tables.specs.View.{isLive, labelAt, setAt}
 use Rattle.tables.specs.Sound.{soundGroup}
-use Rattle.tables.specs.Live.{isOf, liveOf, liveBelow, liveIn, withLive, ofSchema, within, modelFits}
-use Rattle.tables.specs.Laws.Tests.{itself, implied, all-same}
+use Rattle.tables.specs.Quick.Live.{isOf, liveOf, liveBelow, liveIn, withLive, ofSchema, within, modelFits}
+use Rattle.logic.specs.Laws.Search.{all-same}
 
 -- ---- a set within another
 
@@ -64,19 +64,19 @@ within-by-and s o h =
 module _ (t : List ℕ) (schema : ℕ) where
   -- a number past the last model is in no set
   live-has : (m : ℕ) → has (liveOf t Model schema (countOf Model)) m ≡ isOf schema (labelAt t Model m)
-  live-has m = told (decLt m (countOf Model))
+  live-has m = by-cases (decLt m (countOf Model))
     where
-      told : Dec (m < countOf Model) → has (liveOf t Model schema (countOf Model)) m ≡ isOf schema (labelAt t Model m)
-      told (yes l) = set-member (λ i. isOf schema (labelAt t Model i)) (countOf Model) m (omega arith) l
-      told (no l) = set-later (λ i. isOf schema (labelAt t Model i)) (countOf Model) m (omega arith) (omega arith) ∙ rw (le-ltb m (countOf Model) (omega arith))
+      by-cases : Dec (m < countOf Model) → has (liveOf t Model schema (countOf Model)) m ≡ isOf schema (labelAt t Model m)
+      by-cases (yes l) = set-member (λ i. isOf schema (labelAt t Model i)) (countOf Model) m (omega arith) l
+      by-cases (no l) = set-later (λ i. isOf schema (labelAt t Model i)) (countOf Model) m (omega arith) (omega arith) ∙ rw (le-ltb m (countOf Model) (omega arith))
 
   -- both schemas
   pub live-of-schema : 1 ≤ schema → schema ≤ 2 → (m : ℕ) → has (ofSchema (liveIn t Model) schema) m ≡ isOf schema (labelAt t Model m)
-  live-of-schema l h m = told (eqb schema 1) refl
+  live-of-schema l h m = by-cases (eqb schema 1) refl
     where
-      told : (b : Bool) → eqb schema 1 ≡ b → has (cond b (liveOf t Model 1 (countOf Model)) (liveOf t Model 2 (countOf Model))) m ≡ isOf schema (labelAt t Model m)
-      told true e = ap (λ (x : ℕ). has (liveOf t Model x (countOf Model)) m) (sym (eqb-true schema 1 e)) ∙ live-has m
-      told false e =
+      by-cases : (b : Bool) → eqb schema 1 ≡ b → has (cond b (liveOf t Model 1 (countOf Model)) (liveOf t Model 2 (countOf Model))) m ≡ isOf schema (labelAt t Model m)
+      by-cases true e = ap (λ (x : ℕ). has (liveOf t Model x (countOf Model)) m) (sym (eqb-true schema 1 e)) ∙ live-has m
+      by-cases false e =
           let n : schema ≡ 1 → ⊥ = eqb-false schema 1 e in
           let two : 2 ≡ schema = omega arith in
           ap (λ (x : ℕ). has (liveOf t Model x (countOf Model)) m) two ∙ live-has m
@@ -90,33 +90,41 @@ module _ (t : List ℕ) (kind : Kind) (i : ℕ) where
 
   pub live-more : Label (labelAt t kind i) → withLive (liveBelow t kind i) (schemaIn (labelAt t kind i)) i ≡ liveBelow t kind (i + 1)
   unfolding setOf
-  live-more w = rw (add-one, label-is-live (labelAt t kind i) w) (told (eqb (schemaIn (labelAt t kind i)) 1) refl)
+  live-more w = rw (add-one, label-is-live (labelAt t kind i) w) (by-cases (eqb (schemaIn (labelAt t kind i)) 1) refl)
     where
-      told : (b : Bool) → eqb (schemaIn (labelAt t kind i)) 1 ≡ b → _≡_ {A = Live} (cond b (record { first = insert (liveOf t kind 1 i) i; second = liveOf t kind 2 i }) (record { first = liveOf t kind 1 i; second = insert (liveOf t kind 2 i) i })) (record { first = cond b (insert (liveOf t kind 1 i) i) (liveOf t kind 1 i); second = cond (eqb (schemaIn (labelAt t kind i)) 2) (insert (liveOf t kind 2 i) i) (liveOf t kind 2 i) })
-      told true e =
+      by-cases : (b : Bool) → eqb (schemaIn (labelAt t kind i)) 1 ≡ b
+          → _≡_ {A = Live} (cond b (record { first = insert (liveOf t kind 1 i) i; second = liveOf t kind 2 i }) (record
+          { first = liveOf t kind 1 i; second = insert (liveOf t kind 2 i) i })) (record {
+            first = cond b (insert (liveOf t kind 1 i) i) (liveOf t kind 1 i);
+            second = cond
+                (eqb (schemaIn (labelAt t kind i)) 2) (insert (liveOf t kind 2 i) i) (liveOf t kind 2 i);
+          })
+      by-cases true e =
           let one : schemaIn (labelAt t kind i) ≡ 1 = eqb-true (schemaIn (labelAt t kind i)) 1 e in
           rw (one)
-      told false e =
+      by-cases false e =
           let n : schemaIn (labelAt t kind i) ≡ 1 → ⊥ = eqb-false (schemaIn (labelAt t kind i)) 1 e in
           let two : schemaIn (labelAt t kind i) ≡ 2 = omega arith in
           rw (two)
 
 -- ---- the tests of a group and of a model
 
-pub group-by-sets : (t : List ℕ) (s : ℕ) → freeAt t SchemaInstance s ≡ false → isLabel (labelAt t SchemaInstance s) ≡ true → within (setAt t s) (ofSchema (liveIn t Model) (schemaIn (labelAt t SchemaInstance s))) ≡ soundGroup t s
+pub group-by-sets : (t : List ℕ) (s : ℕ) → freeAt t SchemaInstance s ≡ false → isLabel (labelAt t SchemaInstance s) ≡ true
+    → within (setAt t s) (ofSchema (liveIn t Model) (schemaIn (labelAt t SchemaInstance s))) ≡ soundGroup t s
 unfolding soundGroup
 group-by-sets t s live e =
     let w : Label (labelAt t SchemaInstance s) = label-test (labelAt t SchemaInstance s) .holds e in
     rw (live, e) (all-same bits _ _ (λ m l. ap (λ (b : Bool). not (has (setAt t s) m) || b) (live-of-schema t (schemaIn (labelAt t SchemaInstance s)) (w .schema-from) (w .schema-to) m)))
 
-pub model-by-sets : (t : List ℕ) (h : ℕ) → isType (typeIn h) ≡ true → modelFits (liveIn t Model) (typeIn h) h ≡ (isLive t Model (modelIn h) && eqb (schemaIn (labelAt t Model (modelIn h))) (schemaOf (typeIn h)))
+pub model-by-sets : (t : List ℕ) (h : ℕ) → isType (typeIn h) ≡ true
+    → modelFits (liveIn t Model) (typeIn h) h ≡ (isLive t Model (modelIn h) && eqb (schemaIn (labelAt t Model (modelIn h))) (schemaOf (typeIn h)))
 model-by-sets t h e = live-of-schema t (schemaOf (typeIn h)) (type-schema (typeIn h) e .0) (type-schema (typeIn h) e .1) (modelIn h)
 
 -- ---- a number is in a set as far as the set has bits
 
 pub has-folded : (s m : ℕ) → s < 2 ^ bits → (ltb m bits && has s (m % bits)) ≡ has s m
-has-folded s m h = told (decLt m bits)
+has-folded s m h = by-cases (decLt m bits)
   where
-    told : Dec (m < bits) → (ltb m bits && has s (m % bits)) ≡ has s m
-    told (yes l) = rw (lt-ltb m bits l, mod-eq-of-lt l)
-    told (no l) = rw (le-ltb m bits (omega arith)) (sym (has-past s m h (omega arith)))
+    by-cases : Dec (m < bits) → (ltb m bits && has s (m % bits)) ≡ has s m
+    by-cases (yes l) = rw (lt-ltb m bits l, mod-eq-of-lt l)
+    by-cases (no l) = rw (le-ltb m bits (omega arith)) (sym (has-past s m h (omega arith)))

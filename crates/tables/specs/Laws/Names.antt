@@ -9,10 +9,10 @@ use lib.ListN.{length, getD, set}
 use lib.Seq.{getD-set-same, getD-set-other}
 use Rattle.words.specs.declared.layout.Kind.{Kind}
 use Rattle.words.specs.Entries.{freeAt}
-use Rattle.words.specs.Laws.Decides.{denied}
-use Rattle.words.specs.Laws.Search.{all-from}
+use Rattle.logic.specs.Laws.Decides.{denied}
+use Rattle.logic.specs.Laws.Search.{all-from}
 use Rattle.tables.specs.View.{isLive, labelAt}
-use Rattle.tables.specs.Names.{isNew, buckets, bucketOf}
+use Rattle.tables.specs.Quick.Names.{isNew, buckets, bucketOf}
 use Rattle.tables.specs.Laws.Sound.{SameName, same-name-test}
 
 module _ (t : List ℕ) (kind : Kind) where
@@ -43,11 +43,13 @@ module _ (t : List ℕ) (kind : Kind) where
   filled-free filled i free h j l live = h j (before i j l (λ e. true≢false (sym live ∙ ap not (ap (freeAt t kind) e ∙ free)))) live
 
   pub filled-more : (filled : List ℕ) (i : ℕ) → length filled ≡ buckets → Filled filled i → Filled (set filled (bucketOf (labelAt t kind i)) 1) (i + 1)
-  filled-more filled i n h j l live = told (ℕ-discrete (bucketOf (labelAt t kind i)) (bucketOf (labelAt t kind j)))
+  filled-more filled i n h j l live = by-cases (ℕ-discrete (bucketOf (labelAt t kind i)) (bucketOf (labelAt t kind j)))
     where
       here : List ℕ
       here = set filled (bucketOf (labelAt t kind i)) 1
 
-      told : Dec (bucketOf (labelAt t kind i) ≡ bucketOf (labelAt t kind j)) → getD here (bucketOf (labelAt t kind j)) 0 ≡ 1
-      told (yes e) = rw (← e) (getD-set-same filled (bucketOf (labelAt t kind i)) 1 0 (omega arith))
-      told (no e) = getD-set-other filled (bucketOf (labelAt t kind i)) (bucketOf (labelAt t kind j)) 1 0 (λ q. e (sym q)) ∙ h j (before i j l (λ same. e (ap (λ (x : ℕ). bucketOf (labelAt t kind x)) (sym same)))) live
+      by-cases : Dec (bucketOf (labelAt t kind i) ≡ bucketOf (labelAt t kind j)) → getD here (bucketOf (labelAt t kind j)) 0 ≡ 1
+      by-cases (yes e) = rw (← e) (getD-set-same filled (bucketOf (labelAt t kind i)) 1 0 (omega arith))
+      by-cases (no e) =
+          getD-set-other filled (bucketOf (labelAt t kind i)) (bucketOf (labelAt t kind j)) 1 0 (λ q. e (sym q)) ∙ h j
+          (before i j l (λ same. e (ap (λ (x : ℕ). bucketOf (labelAt t kind x)) (sym same)))) live

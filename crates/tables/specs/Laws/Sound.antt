@@ -11,8 +11,8 @@ use Rattle.words.specs.Layout.{words, countOf, placeOf}
 use Rattle.words.specs.Fields.{nameIn, repositoryIn, schemaIn, typeIn, modelIn, isFree}
 use Rattle.words.specs.Entries.{inEntry, wordOf}
 use Rattle.words.specs.Copies.{agree}
-use Rattle.words.specs.Laws.Bools.{and-ended}
-use Rattle.words.specs.Laws.Decides.{Decides, both, equal, restated}
+use Rattle.logic.specs.Laws.Bools.{and-ended}
+use Rattle.logic.specs.Laws.Decides.{Decides, both, equal, restated, itself}
 use Rattle.words.specs.Laws.Fields.{Header, header-test}
 use Rattle.words.specs.Laws.Entries.{entry-test}
 use Rattle.words.specs.Laws.Copies.{Agreeing, agree-test, agree-entries}
@@ -21,15 +21,15 @@ use Rattle.dictionary.specs.declared.answers.Attribute.the-variants.{Lacking, W
 use Rattle.dictionary.specs.Dictionary.{isType, schemaOf}
 use Rattle.tables.specs.View.{isLive, labelAt}
 use Rattle.tables.specs.Sound.{sameName, distinct, soundGroup, soundValue, soundHeader, soundInstance, soundTable, soundTables}
-use Rattle.tables.specs.Laws.Tests.{itself, all-same}
+use Rattle.logic.specs.Laws.Search.{all-same}
 
 -- a number past the last entry is not live
 pub live-below : (t : List ℕ) (kind : Kind) (i : ℕ) → isLive t kind i ≡ true → i < countOf kind
-live-below t kind i h = told (inEntry kind i 0) refl h
+live-below t kind i h = by-cases (inEntry kind i 0) refl h
   where
-    told : (b : Bool) → inEntry kind i 0 ≡ b → not (isFree (cond b (getD t (placeOf kind i + 0) 0) 0)) ≡ true → i < countOf kind
-    told true e live = entry-test kind i 0 .holds e .0
-    told false e live = absurd (false≢true live)
+    by-cases : (b : Bool) → inEntry kind i 0 ≡ b → not (isFree (cond b (getD t (placeOf kind i + 0) 0) 0)) ≡ true → i < countOf kind
+    by-cases true e live = entry-test kind i 0 .holds e .0
+    by-cases false e live = absurd (false≢true live)
 
 -- ---- names
 
@@ -42,7 +42,8 @@ pub record SameName (t : List ℕ) (kind : Kind) (i j : ℕ) : Type 0 where
 
 pub same-name-test : (t : List ℕ) (kind : Kind) (i j : ℕ) → Decides (sameName (labelAt t kind i) (labelAt t kind j)) (SameName t kind i j)
 same-name-test t kind i j =
-    restated (both _ _ (itself _) (both _ _ (both _ _ (itself _) (equal (repositoryIn (labelAt t kind j)) (repositoryIn (labelAt t kind i)))) (equal (nameIn (labelAt t kind j)) (nameIn (labelAt t kind i)))))
+    restated (both _ _ (itself _)
+    (both _ _ (both _ _ (itself _) (equal (repositoryIn (labelAt t kind j)) (repositoryIn (labelAt t kind i)))) (equal (nameIn (labelAt t kind j)) (nameIn (labelAt t kind i)))))
     (λ h. record { live = h .0; other = h .1 .0 .0; repositories = h .1 .0 .1; names = h .1 .1 })
     (λ h. (h .live, ((h .other, h .repositories), h .names)))
 
@@ -88,7 +89,13 @@ module _ (a b : List ℕ) (agreeing : Agreeing a b) where
 
   pub sound-alike : soundTable a ≡ soundTable b
   unfolding soundTable
-  sound-alike = rw (le-leb words (length a) (agreeing .left), le-leb words (length b) (agreeing .right)) (rw (all-same (countOf SchemaInstance) (soundGroup a) (soundGroup b) (λ s l. group-alike a b (same Model) (same SchemaInstance) s), all-same (countOf Instance) (soundInstance a) (soundInstance b) (λ i l. instance-alike i)) (rw (distinct-alike a b Model (same Model), distinct-alike a b SchemaInstance (same SchemaInstance)) (simp same)))
+  sound-alike =
+      rw (le-leb words (length a) (agreeing .left), le-leb words (length b) (agreeing .right)) (rw (
+        all-same (countOf SchemaInstance) (soundGroup a) (soundGroup b)
+            (λ s l. group-alike a b (same Model) (same SchemaInstance) s),
+        all-same (countOf Instance) (soundInstance a) (soundInstance b) (λ i l. instance-alike i),
+      ) (rw
+      (distinct-alike a b Model (same Model), distinct-alike a b SchemaInstance (same SchemaInstance)) (simp same)))
 
 -- while writing both tables are looked at; else agreement and one of them tell
 module _ (working kept : List ℕ) where

@@ -13,25 +13,25 @@ use lib.Pow.{pow-mono, pow-pos}
 use borrow.Author.Tests.{eq-eqb, ne-eqb, eqb-true, eqb-false, lt-ltb, le-ltb}
 use Rattle.words.specs.declared.layout.Kind.the-variants.{Model, Instance}
 use Rattle.words.specs.Layout.{countOf, placeOf}
-use Rattle.words.specs.Search.{allB}
+use Rattle.logic.specs.Search.{allB}
 use Rattle.words.specs.Sets.{bitOf, has}
 use Rattle.words.specs.Fields.{schemaIn, typeIn, modelIn, flagsIn, values, flagged}
-use Rattle.words.specs.Laws.Bools.{and-ended, or-right}
-use Rattle.words.specs.Laws.Decides.{Decides, both, less, equal, at-most, denied, every, restated, same-test}
-use Rattle.words.specs.Laws.Search.{all-from}
+use Rattle.logic.specs.Laws.Bools.{and-ended, or-right}
+use Rattle.logic.specs.Laws.Decides.{Decides, both, less, equal, at-most, denied, every, restated, same-test, itself, implied}
+use Rattle.logic.specs.Laws.Search.{all-from, all-same, all-both, all-one}
 use Rattle.words.specs.Laws.Fields.{Header, flag-of-flags}
 use Rattle.words.specs.Laws.Entries.{entry-test}
 use Rattle.dictionary.specs.declared.answers.Attribute.{Attribute}
 use Rattle.dictionary.specs.declared.answers.Attribute.the-variants.{Lacking, Whole, Reference}
 use Rattle.dictionary.specs.Dictionary.{isType, schemaOf, lacks, isReference, attributesOf, attributeOf}
-use Rattle.dictionary.specs.AttributeLaws.{attribute-lacks, attributes-few}
-use Rattle.dictionary.specs.References.{referenceOf, targetsOf, reference-other, reference-is, bit, target-bit}
+use Rattle.dictionary.specs.Laws.Attributes.{attribute-lacks, attributes-few}
+use Rattle.dictionary.specs.Quick.References.{referenceOf, targetsOf}
+use Rattle.dictionary.specs.Laws.References.{reference-other, reference-is, bit, target-bit}
 use Rattle.dictionary.specs.Subtype.{subtype}
 use Rattle.tables.specs.View.{isLive, labelAt, headerAt, typeAt, valueAt}
 use Rattle.tables.specs.Sound.{soundValue, soundHeader, soundInstance}
-use Rattle.tables.specs.Live.{liveIn, modelFits}
-use Rattle.tables.specs.Values.{flagsFit, wordFits, wordsFit, excessOf, targetFits, referenceFits, noValues}
-use Rattle.tables.specs.Laws.Tests.{itself, implied, all-same, all-both, all-one}
+use Rattle.tables.specs.Quick.Live.{liveIn, modelFits}
+use Rattle.tables.specs.Quick.Values.{flagsFit, wordFits, wordsFit, excessOf, targetFits, referenceFits, noValues}
 use Rattle.tables.specs.Laws.Sound.{live-below, SoundHeader, sound-header-test}
 use Rattle.tables.specs.Laws.Live.{model-by-sets}
 use Rattle.tables.specs.Laws.Labels.{first-word}
@@ -45,24 +45,24 @@ namesRight t Whole v = true
 namesRight t (Reference target) v = isLive t Instance v && subtype (typeAt t v) target
 
 unset-small : (v : ℕ) → (ltb v 0x1_0000_0000 && eqb v 0) ≡ (eqb v 0 && true)
-unset-small v = told (eqb v 0) refl
+unset-small v = by-cases (eqb v 0) refl
   where
-    told : (b : Bool) → eqb v 0 ≡ b → (ltb v 0x1_0000_0000 && b) ≡ (b && true)
-    told true e =
+    by-cases : (b : Bool) → eqb v 0 ≡ b → (ltb v 0x1_0000_0000 && b) ≡ (b && true)
+    by-cases true e =
         let z : v ≡ 0 = eqb-true v 0 e in
         rw (lt-ltb v 0x1_0000_0000 (omega arith))
-    told false e = and-ended (ltb v 0x1_0000_0000) false refl
+    by-cases false e = and-ended (ltb v 0x1_0000_0000) false refl
 
 value-parts : (t : List ℕ) (a : Attribute) (set : Bool) (v : ℕ) → soundValue t a set v ≡ ((not set || not (lacks a)) && (wordFits set v && (not set || namesRight t a v)))
 value-parts t Lacking true v = refl
 value-parts t Lacking false v = sym (and-true (eqb v 0))
 value-parts t Whole true v = refl
 value-parts t Whole false v = unset-small v
-value-parts t (Reference target) true v = told (isLive t Instance v) refl
+value-parts t (Reference target) true v = by-cases (isLive t Instance v) refl
   where
-    told : (b : Bool) → isLive t Instance v ≡ b → (b && subtype (typeAt t v) target) ≡ (ltb v 0x1_0000_0000 && (b && subtype (typeAt t v) target))
-    told true e = rw (lt-ltb v 0x1_0000_0000 (omega (arith, live-below t Instance v e)))
-    told false e = sym (and-ended (ltb v 0x1_0000_0000) false refl)
+    by-cases : (b : Bool) → isLive t Instance v ≡ b → (b && subtype (typeAt t v) target) ≡ (ltb v 0x1_0000_0000 && (b && subtype (typeAt t v) target))
+    by-cases true e = rw (lt-ltb v 0x1_0000_0000 (omega (arith, live-below t Instance v e)))
+    by-cases false e = sym (and-ended (ltb v 0x1_0000_0000) false refl)
 value-parts t (Reference target) false v = sym (and-true (eqb v 0))
 
 -- ---- the flags
@@ -71,20 +71,20 @@ none-above : (x n : ℕ) → x / 2 ^ n ≡ 0 → x < 2 ^ n
 none-above x n e = omega (arith, div-add-mod' x (2 ^ n), mod-lt x (pow-pos n), ap (λ (q : ℕ). q * 2 ^ n) e, zero-mul (2 ^ n))
 
 low-only : (x n : ℕ) → x / 2 ^ n ≡ 0 → (k : ℕ) → has x k ≡ true → k < n
-low-only x n e k h = told (decLt k n)
+low-only x n e k h = by-cases (decLt k n)
   where
-    told : Dec (k < n) → k < n
-    told (yes l) = l
-    told (no l) = absurd (false≢true (sym (ap (λ (y : ℕ). eqb (y % 2) 1) (div-eq-of-lt (lt-of-lt-of-le (none-above x n e) (pow-mono (omega arith))))) ∙ h))
+    by-cases : Dec (k < n) → k < n
+    by-cases (yes l) = l
+    by-cases (no l) = absurd (false≢true (sym (ap (λ (y : ℕ). eqb (y % 2) 1) (div-eq-of-lt (lt-of-lt-of-le (none-above x n e) (pow-mono (omega arith))))) ∙ h))
 
 -- no highest bit, so the number is below it; and so down to n
 top-gone : (x n : ℕ) → x < 2 ^ suc n → (bitOf x n ≡ 1 → ⊥) → x < 2 ^ n
-top-gone x n h off = told (x / 2 ^ n) (div-add-mod' x (2 ^ n)) off
+top-gone x n h off = by-cases (x / 2 ^ n) (div-add-mod' x (2 ^ n)) off
   where
-    told : (q : ℕ) → q * 2 ^ n + x % 2 ^ n ≡ x → (q % 2 ≡ 1 → ⊥) → x < 2 ^ n
-    told zero e apart = omega (arith, zero-mul (2 ^ n), mod-lt x (pow-pos n))
-    told (suc zero) e apart = absurd (apart refl)
-    told (suc (suc q)) e apart = absurd (omega (arith, pow-suc 2 n, suc-mul (suc q) (2 ^ n), suc-mul q (2 ^ n)))
+    by-cases : (q : ℕ) → q * 2 ^ n + x % 2 ^ n ≡ x → (q % 2 ≡ 1 → ⊥) → x < 2 ^ n
+    by-cases zero e apart = omega (arith, zero-mul (2 ^ n), mod-lt x (pow-pos n))
+    by-cases (suc zero) e apart = absurd (apart refl)
+    by-cases (suc (suc q)) e apart = absurd (omega (arith, pow-suc 2 n, suc-mul (suc q) (2 ^ n), suc-mul q (2 ^ n)))
 
 high-gone : (x n d : ℕ) → x < 2 ^ (n + d) → ((k : ℕ) → n ≤ k → k < n + d → bitOf x k ≡ 1 → ⊥) → x < 2 ^ n
 high-gone x n zero h off = rw (add-zero n) at h
@@ -118,7 +118,8 @@ flags-small h e =
 module _ (t : List ℕ) (h : ℕ) (typed : h % 256 ≡ 0 → ⊥) (type : isType (typeIn h) ≡ true) where
   sound-by-sets : modelFits (liveIn t Model) (typeIn h) h ≡ true → flagsFit (length (attributesOf (typeIn h))) h ≡ true → soundHeader t h ≡ true
   sound-by-sets m f =
-      let there = both (isLive t Model (modelIn h)) _ (itself (isLive t Model (modelIn h))) (equal (schemaIn (labelAt t Model (modelIn h))) (schemaOf (typeIn h))) .holds (sym (model-by-sets t h type) ∙ m) in
+      let there = both (isLive t Model (modelIn h)) _ (itself (isLive t Model (modelIn h))) (equal (schemaIn (labelAt t Model (modelIn h))) (schemaOf (typeIn h))) .holds
+      (sym (model-by-sets t h type) ∙ m) in
       sound-header-test t h .passes record {
         header = record { small = flags-small h f; typed = omega arith; model = live-below t Model (modelIn h) (there .0) };
         type = type;
@@ -126,17 +127,20 @@ module _ (t : List ℕ) (h : ℕ) (typed : h % 256 ≡ 0 → ⊥) (type : isType
         schema = there .1;
       }
 
-  header-parts : (modelFits (liveIn t Model) (typeIn h) h && flagsFit (length (attributesOf (typeIn h))) h) ≡ (soundHeader t h && allB values (λ k. not (flagged h k) || not (lacks (attributeOf (typeIn h) k))))
-  header-parts = told (soundHeader t h) refl
+  header-parts : (modelFits (liveIn t Model) (typeIn h) h && flagsFit (length (attributesOf (typeIn h))) h) ≡
+      (soundHeader t h && allB values (λ k. not (flagged h k) || not (lacks (attributeOf (typeIn h) k))))
+  header-parts = by-cases (soundHeader t h) refl
     where
       none : (a b : Bool) → modelFits (liveIn t Model) (typeIn h) h ≡ a → flagsFit (length (attributesOf (typeIn h))) h ≡ b → soundHeader t h ≡ false → (a && b) ≡ false
       none true true p q e = sym (sound-by-sets p q) ∙ e
       none true false p q e = refl
       none false b p q e = refl
 
-      told : (s : Bool) → soundHeader t h ≡ s → (modelFits (liveIn t Model) (typeIn h) h && flagsFit (length (attributesOf (typeIn h))) h) ≡ (s && allB values (λ k. not (flagged h k) || not (lacks (attributeOf (typeIn h) k))))
-      told false e = none (modelFits (liveIn t Model) (typeIn h) h) (flagsFit (length (attributesOf (typeIn h))) h) refl refl e
-      told true e =
+      by-cases : (s : Bool) → soundHeader t h ≡ s
+          → (modelFits (liveIn t Model) (typeIn h) h && flagsFit (length (attributesOf (typeIn h))) h) ≡
+          (s && allB values (λ k. not (flagged h k) || not (lacks (attributeOf (typeIn h) k))))
+      by-cases false e = none (modelFits (liveIn t Model) (typeIn h) h) (flagsFit (length (attributesOf (typeIn h))) h) refl refl e
+      by-cases true e =
           let w = sound-header-test t h .holds e in
           let fits : modelFits (liveIn t Model) (typeIn h) h ≡ true = model-by-sets t h type ∙ rw (w .model) (eq-eqb _ _ (w .schema)) in
           rw (fits) (flags-parts h (w .header))
@@ -150,18 +154,29 @@ or-zero a b =
     (both _ _ (equal a 0) (equal b 0))
 
 excess-test : (v h k : ℕ) → k < values → eqb (excessOf v h k) 0 ≡ wordFits (flagged h k) v
-excess-test v h k l = rw (lt-ltb k values l) (told (bitOf h (16 + k)) (omega arith))
+excess-test v h k l = rw (lt-ltb k values l) (by-cases (bitOf h (16 + k)) (omega arith))
   where
-    told : (b : ℕ) → b < 2 → eqb (v / 2 ^ (32 * b)) 0 ≡ wordFits (eqb b 1) v
-    told zero s = ap (λ (x : ℕ). eqb x 0) (div-one v)
-    told (suc zero) s = same-test _ _ (restated (equal (v / 0x1_0000_0000) 0) (λ e. omega arith) (λ m. omega arith)) (less v 0x1_0000_0000)
-    told (suc (suc b)) s = absurd (omega arith)
+    by-cases : (b : ℕ) → b < 2 → eqb (v / 2 ^ (32 * b)) 0 ≡ wordFits (eqb b 1) v
+    by-cases zero s = ap (λ (x : ℕ). eqb x 0) (div-one v)
+    by-cases (suc zero) s = same-test _ _ (restated (equal (v / 0x1_0000_0000) 0) (λ e. omega arith) (λ m. omega arith)) (less v 0x1_0000_0000)
+    by-cases (suc (suc b)) s = absurd (omega arith)
 
-pub words-by-excess : (t : List ℕ) (at h : ℕ) → eqb (bitOr (bitOr (bitOr (excessOf (getD t (at + 1) 0) h 0) (excessOf (getD t (at + 2) 0) h 1)) (excessOf (getD t (at + 3) 0) h 2)) (excessOf (getD t (at + 4) 0) h 3)) 0 ≡ wordsFit t at h
+pub words-by-excess : (t : List ℕ) (at h : ℕ)
+    → eqb (bitOr (bitOr (bitOr (excessOf (getD t (at + 1) 0) h 0) (excessOf (getD t (at + 2) 0) h 1)) (excessOf (getD t (at + 3) 0) h 2)) (excessOf (getD t (at + 4) 0) h 3)) 0 ≡
+    wordsFit t at h
 unfolding allB
 words-by-excess t at h =
     or-zero (bitOr (bitOr (excessOf (getD t (at + 1) 0) h 0) (excessOf (getD t (at + 2) 0) h 1)) (excessOf (getD t (at + 3) 0) h 2)) (excessOf (getD t (at + 4) 0) h 3)
-    ∙ rw (or-zero (bitOr (excessOf (getD t (at + 1) 0) h 0) (excessOf (getD t (at + 2) 0) h 1)) (excessOf (getD t (at + 3) 0) h 2), or-zero (excessOf (getD t (at + 1) 0) h 0) (excessOf (getD t (at + 2) 0) h 1), excess-test (getD t (at + 1) 0) h 0 (omega arith), excess-test (getD t (at + 2) 0) h 1 (omega arith), excess-test (getD t (at + 3) 0) h 2 (omega arith), excess-test (getD t (at + 4) 0) h 3 (omega arith))
+    ∙ rw (
+      or-zero (bitOr (excessOf (getD t (at + 1) 0) h 0) (excessOf (getD t (at + 2) 0) h 1)) (excessOf (getD t (at + 3) 0) h 2),
+      or-zero (excessOf (getD t (at + 1) 0) h 0)
+          (excessOf (getD t (at + 2) 0) h 1),
+      excess-test (getD t (at + 1) 0) h 0 (omega arith),
+      excess-test (getD t (at + 2) 0) h 1 (omega arith),
+      excess-test (getD t (at + 3) 0) h 2
+          (omega arith),
+      excess-test (getD t (at + 4) 0) h 3 (omega arith),
+    )
 
 -- ---- the one reference
 
@@ -171,11 +186,11 @@ names-right t Whole v e = refl
 names-right t (Reference target) v e = absurd (true≢false e)
 
 target-has : (type u target : ℕ) → attributeOf type (referenceOf type) ≡ Reference target → has (targetsOf type) u ≡ subtype u target
-target-has type u target w = ap (λ (x : ℕ). eqb x 1) (target-bit type u target w) ∙ told (subtype u target)
+target-has type u target w = ap (λ (x : ℕ). eqb x 1) (target-bit type u target w) ∙ by-cases (subtype u target)
   where
-    told : (b : Bool) → eqb (bit b) 1 ≡ b
-    told true = refl
-    told false = refl
+    by-cases : (b : Bool) → eqb (bit b) 1 ≡ b
+    by-cases true = refl
+    by-cases false = refl
 
 module _ (t : List ℕ) (at type h : ℕ) where
   abbrev asked : ℕ → Bool
@@ -190,11 +205,13 @@ module _ (t : List ℕ) (at type h : ℕ) where
   target-asked v (Reference target) w e = ap (λ (b : Bool). isLive t Instance v && b) (sym (target-has type (typeAt t v) target w))
 
   reference-parts : allB values asked ≡ referenceFits t at (referenceOf type) (targetsOf type) h
-  reference-parts = told (decLt (referenceOf type) values)
+  reference-parts = by-cases (decLt (referenceOf type) values)
     where
-      told : Dec (referenceOf type < values) → allB values asked ≡ referenceFits t at (referenceOf type) (targetsOf type) h
-      told (yes l) = all-one values asked (referenceOf type) l not-asked ∙ ap (λ (b : Bool). not (flagged h (referenceOf type)) || b) (target-asked (getD t (at + (1 + referenceOf type)) 0) (attributeOf type (referenceOf type)) refl (reference-is type l))
-      told (no l) = rw (le-ltb (referenceOf type) values (omega arith)) (all-from values asked (λ k m. not-asked k (λ e. omega arith)))
+      by-cases : Dec (referenceOf type < values) → allB values asked ≡ referenceFits t at (referenceOf type) (targetsOf type) h
+      by-cases (yes l) =
+          all-one values asked (referenceOf type) l not-asked ∙ ap (λ (b : Bool). not (flagged h (referenceOf type)) || b)
+          (target-asked (getD t (at + (1 + referenceOf type)) 0) (attributeOf type (referenceOf type)) refl (reference-is type l))
+      by-cases (no l) = rw (le-ltb (referenceOf type) values (omega arith)) (all-from values asked (λ k m. not-asked k (λ e. omega arith)))
 
 -- ---- an instance
 
@@ -221,26 +238,36 @@ module _ (t : List ℕ) (i : ℕ) (within : i < countOf Instance) where
   abbrev pub by-parts : Bool
   by-parts = at-once && referenceFits t (placeOf Instance i) (referenceOf (typeIn header-word)) (targetsOf (typeIn header-word)) header-word
 
-  values-parts : allB values (λ k. soundValue t (attributeOf (typeIn header-word) k) (flagged header-word k) (valueAt t i k)) ≡ (allB values (λ k. not (flagged header-word k) || not (lacks (attributeOf (typeIn header-word) k))) && (wordsFit t (placeOf Instance i) header-word && referenceFits t (placeOf Instance i) (referenceOf (typeIn header-word)) (targetsOf (typeIn header-word)) header-word))
+  values-parts : allB values (λ k. soundValue t (attributeOf (typeIn header-word) k) (flagged header-word k) (valueAt t i k)) ≡ (allB values
+      (λ k. not (flagged header-word k) || not (lacks (attributeOf (typeIn header-word) k))) &&
+      (wordsFit t (placeOf Instance i) header-word && referenceFits t (placeOf Instance i) (referenceOf (typeIn header-word)) (targetsOf (typeIn header-word)) header-word))
   values-parts =
-      rw (← reference-parts t (placeOf Instance i) (typeIn header-word) header-word, all-both values (λ k. wordFits (flagged header-word k) (getD t (placeOf Instance i + (1 + k)) 0)) (asked t (placeOf Instance i) (typeIn header-word) header-word), all-both values)
+      rw (
+        ← reference-parts t (placeOf Instance i) (typeIn header-word) header-word,
+        all-both values
+            (λ k. wordFits (flagged header-word k) (getD t (placeOf Instance i + (1 + k)) 0)) (asked t (placeOf Instance i) (typeIn header-word) header-word),
+        all-both values,
+      )
       (all-same values _ _ (λ k l. rw (value-there k l) (value-parts t (attributeOf (typeIn header-word) k) (flagged header-word k) (getD t (placeOf Instance i + (1 + k)) 0))))
 
   module _ (live : header-word ≡ 0 → ⊥) where
     pub untyped-unsound : (eqb (header-word % 256) 0 || not (isType (typeIn header-word))) ≡ true → soundInstance t i ≡ false
     unfolding soundInstance
-    untyped-unsound e = rw (first-word t Instance i within, ne-eqb header-word 0 live) (told (soundHeader t header-word) refl)
+    untyped-unsound e = rw (first-word t Instance i within, ne-eqb header-word 0 live) (by-cases (soundHeader t header-word) refl)
       where
         none : SoundHeader t header-word → ⊥
         none w = true≢false (sym e ∙ rw (ne-eqb (header-word % 256) 0 (λ z. omega arith), w .type))
 
-        told : (b : Bool) → soundHeader t header-word ≡ b → (b && allB values (λ k. soundValue t (attributeOf (typeIn header-word) k) (flagged header-word k) (valueAt t i k))) ≡ false
-        told true p = absurd (none (sound-header-test t header-word .holds p))
-        told false p = refl
+        by-cases : (b : Bool) → soundHeader t header-word ≡ b → (b && allB values (λ k. soundValue t (attributeOf (typeIn header-word) k) (flagged header-word k) (valueAt t i k))) ≡ false
+        by-cases true p = absurd (none (sound-header-test t header-word .holds p))
+        by-cases false p = refl
 
     pub live-by-parts : (eqb (header-word % 256) 0 || not (isType (typeIn header-word))) ≡ false → by-parts ≡ soundInstance t i
     unfolding soundInstance
-    live-by-parts e = rw (first-word t Instance i within, ne-eqb header-word 0 live, values-parts) (rw (header-parts t header-word (typed (eqb (header-word % 256) 0) refl e) (type (eqb (header-word % 256) 0) (isType (typeIn header-word)) refl e)) (grouped (soundHeader t header-word) _ _ _))
+    live-by-parts e =
+        rw (first-word t Instance i within, ne-eqb header-word 0 live, values-parts) (rw
+        (header-parts t header-word (typed (eqb (header-word % 256) 0) refl e) (type (eqb (header-word % 256) 0) (isType (typeIn header-word)) refl e))
+        (grouped (soundHeader t header-word) _ _ _))
       where
         typed : (a : Bool) → eqb (header-word % 256) 0 ≡ a → (a || not (isType (typeIn header-word))) ≡ false → header-word % 256 ≡ 0 → ⊥
         typed true p q z = true≢false q

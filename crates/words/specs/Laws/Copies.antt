@@ -13,10 +13,10 @@ use lib.Seq.{take-suc, drop-cons, append-snoc, set-at, length-take-le, getD-take
 use Rattle.words.specs.declared.layout.Kind.{Kind}
 use Rattle.words.specs.Layout.{words}
 use Rattle.words.specs.Entries.{wordOf}
-use Rattle.words.specs.Search.{allB}
+use Rattle.logic.specs.Search.{allB}
 use Rattle.words.specs.Copies.{sameAt, agree, inBoth, copied}
-use Rattle.words.specs.Laws.Bools.{and-ended}
-use Rattle.words.specs.Laws.Decides.{Decides, same-test, both, equal, at-most, every, restated}
+use Rattle.logic.specs.Laws.Bools.{and-ended}
+use Rattle.logic.specs.Laws.Decides.{Decides, same-test, both, equal, at-most, every, restated}
 use Rattle.words.specs.Laws.Entries.{word-alike}
 
 -- one word more is copied

@@ -4,17 +4,19 @@ use mathlib.Core.Logic.{_⊎_, inl, inr}
 use mathlib.Core.Bool.{Bool, true, false, cond}
 use mathlib.Core.List.{List}
 use Prim.Native.Nat.{ℕ, zero, suc, _+_, _-_, _≤_, _<_}
-use native.Mathlib.Nat.{eq-or-lt-of-le, le-of-suc-le-suc}
+use native.Mathlib.Nat.{eq-or-lt-of-le, le-of-suc-le-suc, le-refl}
 use native.Mathlib.Decide.{decLt}
 use native.Mathlib.Omega.{arith}
+use lib.Dec.{eqb}
 use lib.ListN.{length, getD, set, drop, length-set}
 use lib.Seq.{getD-set-same, getD-set-other, set-out, drop-set-lt}
+use borrow.Author.Tests.{eqb-true}
 use Rattle.words.specs.declared.layout.Kind.{Kind}
 use Rattle.words.specs.Layout.{words, strideOf, countOf, placeOf}
-use Rattle.words.specs.Entries.{inEntry, wordOf, withWord, withWords, freeAt, firstFree}
-use Rattle.words.specs.Laws.Decides.{Decides, both, less}
-use Rattle.words.specs.Laws.Search.{First, first, not-passed-over}
-use Rattle.words.specs.Laws.Layout.{in-use, Same, one-owner}
+use Rattle.words.specs.Entries.{inEntry, wordOf, withWord, firstThenZeros, filled, withEntry, freeAt, firstFree, nextFree}
+use Rattle.logic.specs.Laws.Decides.{Decides, both, less}
+use Rattle.logic.specs.Laws.Search.{First, first, not-passed-over}
+use Rattle.words.specs.Laws.Layout.{stride-positive, in-use, Same, one-owner}
 
 module _ (kind : Kind) (i k : ℕ) where
   pub entry-test : Decides (inEntry kind i k) ((i < countOf kind) × (k < strideOf kind))
@@ -29,11 +31,11 @@ module _ (kind : Kind) (i k : ℕ) where
 
 module _ (t : List ℕ) (kind : Kind) (i k w : ℕ) where
   pub length-word : length (withWord t kind i k w) ≡ length t
-  length-word = told (inEntry kind i k)
+  length-word = by-cases (inEntry kind i k)
     where
-      told : (b : Bool) → length (cond b (set t (placeOf kind i + k) w) t) ≡ length t
-      told true = length-set t (placeOf kind i + k) w
-      told false = refl
+      by-cases : (b : Bool) → length (cond b (set t (placeOf kind i + k) w) t) ≡ length t
+      by-cases true = length-set t (placeOf kind i + k) w
+      by-cases false = refl
 
   pub word-same : i < countOf kind → k < strideOf kind → words ≤ length t → wordOf (withWord t kind i k w) kind i k ≡ w
   word-same hi hk long =
@@ -42,72 +44,94 @@ module _ (t : List ℕ) (kind : Kind) (i k w : ℕ) where
 
   -- in a table of any length: the word is written, or nothing changes
   pub word-written : (wordOf (withWord t kind i k w) kind i k ≡ w) ⊎ (withWord t kind i k w ≡ t)
-  word-written = told (inEntry kind i k)
+  word-written = by-cases (inEntry kind i k)
     where
       placed : Dec (placeOf kind i + k < length t) → (getD (set t (placeOf kind i + k) w) (placeOf kind i + k) 0 ≡ w) ⊎ (set t (placeOf kind i + k) w ≡ t)
       placed (yes l) = inl (getD-set-same t (placeOf kind i + k) w 0 l)
       placed (no l) = inr (set-out t (placeOf kind i + k) w (omega arith))
 
-      told : (b : Bool) → (cond b (getD (cond b (set t (placeOf kind i + k) w) t) (placeOf kind i + k) 0) 0 ≡ w) ⊎ (cond b (set t (placeOf kind i + k) w) t ≡ t)
-      told true = placed (decLt (placeOf kind i + k) (length t))
-      told false = inr refl
+      by-cases : (b : Bool) → (cond b (getD (cond b (set t (placeOf kind i + k) w) t) (placeOf kind i + k) 0) 0 ≡ w) ⊎ (cond b (set t (placeOf kind i + k) w) t ≡ t)
+      by-cases true = placed (decLt (placeOf kind i + k) (length t))
+      by-cases false = inr refl
 
   pub word-other : (kind′ : Kind) (i′ k′ : ℕ) → (Same kind kind′ i i′ k k′ → ⊥) → wordOf (withWord t kind i k w) kind′ i′ k′ ≡ wordOf t kind′ i′ k′
-  word-other kind′ i′ k′ apart = told (inEntry kind i k) refl (inEntry kind′ i′ k′) refl
+  word-other kind′ i′ k′ apart = by-cases (inEntry kind i k) refl (inEntry kind′ i′ k′) refl
     where
-      told : (b : Bool) → inEntry kind i k ≡ b → (b′ : Bool) → inEntry kind′ i′ k′ ≡ b′ → cond b′ (getD (cond b (set t (placeOf kind i + k) w) t) (placeOf kind′ i′ + k′) 0) 0 ≡ cond b′ (getD t (placeOf kind′ i′ + k′) 0) 0
-      told b e false e′ = refl
-      told false e true e′ = refl
-      told true e true e′ =
+      by-cases : (b : Bool) → inEntry kind i k ≡ b → (b′ : Bool) → inEntry kind′ i′ k′ ≡ b′
+          → cond b′ (getD (cond b (set t (placeOf kind i + k) w) t) (placeOf kind′ i′ + k′) 0) 0 ≡ cond b′ (getD t (placeOf kind′ i′ + k′) 0) 0
+      by-cases b e false e′ = refl
+      by-cases false e true e′ = refl
+      by-cases true e true e′ =
           let here = entry-test kind i k .holds e in
           let there = entry-test kind′ i′ k′ .holds e′ in
           getD-set-other t (placeOf kind i + k) (placeOf kind′ i′ + k′) w 0 (λ same. apart (one-owner kind kind′ i i′ k k′ (here .0) (here .1) (there .0) (there .1) (sym same)))
 
   -- "Words from 736 on are never .. written."
   pub word-beyond : drop words (withWord t kind i k w) ≡ drop words t
-  word-beyond = told (inEntry kind i k) refl
+  word-beyond = by-cases (inEntry kind i k) refl
     where
-      told : (b : Bool) → inEntry kind i k ≡ b → drop words (cond b (set t (placeOf kind i + k) w) t) ≡ drop words t
-      told false e = refl
-      told true e = drop-set-lt words t (placeOf kind i + k) w (entry-in-use kind i k e)
+      by-cases : (b : Bool) → inEntry kind i k ≡ b → drop words (cond b (set t (placeOf kind i + k) w) t) ≡ drop words t
+      by-cases false e = refl
+      by-cases true e = drop-set-lt words t (placeOf kind i + k) w (entry-in-use kind i k e)
 
 -- "Words from 736 on are never read": tables that are alike below have the same entries
 pub word-alike : (a b : List ℕ) → ((j : ℕ) → j < words → getD a j 0 ≡ getD b j 0) → (kind : Kind) (i k : ℕ) → wordOf a kind i k ≡ wordOf b kind i k
-word-alike a b h kind i k = told (inEntry kind i k) refl
+word-alike a b h kind i k = by-cases (inEntry kind i k) refl
   where
-    told : (c : Bool) → inEntry kind i k ≡ c → cond c (getD a (placeOf kind i + k) 0) 0 ≡ cond c (getD b (placeOf kind i + k) 0) 0
-    told false e = refl
-    told true e = h (placeOf kind i + k) (entry-in-use kind i k e)
+    by-cases : (c : Bool) → inEntry kind i k ≡ c → cond c (getD a (placeOf kind i + k) 0) 0 ≡ cond c (getD b (placeOf kind i + k) 0) 0
+    by-cases false e = refl
+    by-cases true e = h (placeOf kind i + k) (entry-in-use kind i k e)
 
 -- ---- a whole entry written
 
-module _ (t : List ℕ) (kind : Kind) (i : ℕ) (ws : List ℕ) where
-  pub length-words : (n : ℕ) → length (withWords t kind i ws n) ≡ length t
-  unfolding withWords
-  length-words zero = refl
-  length-words (suc n) = length-word (withWords t kind i ws n) kind i n (getD ws n 0) ∙ length-words n
+module _ (t : List ℕ) (kind : Kind) (i first : ℕ) where
+  length-some : (n : ℕ) → length (filled t kind i first n) ≡ length t
+  unfolding filled
+  length-some zero = refl
+  length-some (suc n) = length-word (filled t kind i first n) kind i n (firstThenZeros first n) ∙ length-some n
 
-  pub words-beyond : (n : ℕ) → drop words (withWords t kind i ws n) ≡ drop words t
-  unfolding withWords
-  words-beyond zero = refl
-  words-beyond (suc n) = word-beyond (withWords t kind i ws n) kind i n (getD ws n 0) ∙ words-beyond n
+  beyond-some : (n : ℕ) → drop words (filled t kind i first n) ≡ drop words t
+  unfolding filled
+  beyond-some zero = refl
+  beyond-some (suc n) = word-beyond (filled t kind i first n) kind i n (firstThenZeros first n) ∙ beyond-some n
 
-  pub words-other : (n : ℕ) (kind′ : Kind) (i′ k′ : ℕ) → (kind ≡ kind′ → i ≡ i′ → ⊥) → wordOf (withWords t kind i ws n) kind′ i′ k′ ≡ wordOf t kind′ i′ k′
-  unfolding withWords
-  words-other zero kind′ i′ k′ apart = refl
-  words-other (suc n) kind′ i′ k′ apart = word-other (withWords t kind i ws n) kind i n (getD ws n 0) kind′ i′ k′ (λ s. apart (s .kinds) (s .numbers)) ∙ words-other n kind′ i′ k′ apart
+  other-some : (n : ℕ) (kind′ : Kind) (i′ k′ : ℕ) → (kind ≡ kind′ → i ≡ i′ → ⊥) → wordOf (filled t kind i first n) kind′ i′ k′ ≡ wordOf t kind′ i′ k′
+  unfolding filled
+  other-some zero kind′ i′ k′ apart = refl
+  other-some (suc n) kind′ i′ k′ apart =
+      word-other (filled t kind i first n) kind i n (firstThenZeros first n) kind′ i′ k′ (λ s. apart (s .kinds) (s .numbers)) ∙ other-some n kind′ i′ k′ apart
 
-  pub words-same : (n k : ℕ) → k < n → i < countOf kind → n ≤ strideOf kind → words ≤ length t → wordOf (withWords t kind i ws n) kind i k ≡ getD ws k 0
-  unfolding withWords
-  words-same zero k l hi hn long = absurd (omega arith)
-  words-same (suc n) k l hi hn long = told (eq-or-lt-of-le (le-of-suc-le-suc l)) (λ m. words-same n k m hi (omega arith) long)
+  same-some : (n k : ℕ) → k < n → i < countOf kind → n ≤ strideOf kind → words ≤ length t → wordOf (filled t kind i first n) kind i k ≡ firstThenZeros first k
+  unfolding filled
+  same-some zero k l hi hn long = absurd (omega arith)
+  same-some (suc n) k l hi hn long = by-cases (eq-or-lt-of-le (le-of-suc-le-suc l)) (λ m. same-some n k m hi (omega arith) long)
     where
       before : List ℕ
-      before = withWords t kind i ws n
+      before = filled t kind i first n
 
-      told : (k ≡ n) ⊎ (k < n) → (k < n → wordOf before kind i k ≡ getD ws k 0) → wordOf (withWord before kind i n (getD ws n 0)) kind i k ≡ getD ws k 0
-      told (inl e) earlier = rw e (word-same before kind i n (getD ws n 0) hi (omega arith) (omega (arith, length-words n)))
-      told (inr m) earlier = word-other before kind i n (getD ws n 0) kind i k (λ s. omega arith) ∙ earlier m
+      by-cases : (k ≡ n) ⊎ (k < n) → (k < n → wordOf before kind i k ≡ firstThenZeros first k) → wordOf (withWord before kind i n (firstThenZeros first n)) kind i k ≡ firstThenZeros first k
+      by-cases (inl e) earlier = rw e (word-same before kind i n (firstThenZeros first n) hi (omega arith) (omega (arith, length-some n)))
+      by-cases (inr m) earlier = word-other before kind i n (firstThenZeros first n) kind i k (λ s. omega arith) ∙ earlier m
+
+  -- made with this first word, or free again, which is the first word 0
+  pub length-entry : length (withEntry t kind i first) ≡ length t
+  length-entry = length-some (strideOf kind)
+
+  pub entry-beyond : drop words (withEntry t kind i first) ≡ drop words t
+  entry-beyond = beyond-some (strideOf kind)
+
+  pub entry-other : (kind′ : Kind) (i′ k′ : ℕ) → (kind ≡ kind′ → i ≡ i′ → ⊥) → wordOf (withEntry t kind i first) kind′ i′ k′ ≡ wordOf t kind′ i′ k′
+  entry-other kind′ i′ k′ apart = other-some (strideOf kind) kind′ i′ k′ apart
+
+  pub entry-first : i < countOf kind → words ≤ length t → wordOf (withEntry t kind i first) kind i 0 ≡ first
+  entry-first hi long = same-some (strideOf kind) 0 (stride-positive kind) hi (le-refl (strideOf kind)) long
+
+  pub entry-zeros : (k : ℕ) → k < strideOf kind → i < countOf kind → words ≤ length t → (k ≡ 0 → first ≡ 0) → wordOf (withEntry t kind i first) kind i k ≡ 0
+  entry-zeros k l hi long h = same-some (strideOf kind) k l hi (le-refl (strideOf kind)) long ∙ by-cases (eqb k 0) refl
+    where
+      by-cases : (b : Bool) → eqb k 0 ≡ b → cond b first 0 ≡ 0
+      by-cases true e = h (eqb-true k 0 e)
+      by-cases false e = refl
 
 -- ---- what a search over entries finds
 
@@ -140,3 +164,25 @@ module _ (t : List ℕ) (kind : Kind) (from : ℕ) (within : from ≤ countOf ki
 -- **The last entry is looked at**: where it is free, a search from any entry finds one.
 pub last-looked-at : (t : List ℕ) (kind : Kind) (from last : ℕ) → last + 1 ≡ countOf kind → from ≤ last → freeAt t kind last ≡ true → firstFree t kind from < countOf kind
 last-looked-at t kind from last e l p = omega (arith, free-not-missed t kind from (omega arith) last l (omega arith) p)
+
+-- ---- the number that a creation takes: all that its callers know of it
+
+module _ (t : List ℕ) (kind : Kind) where
+  pub next-within : nextFree t kind ≤ countOf kind
+  unfolding nextFree
+  next-within = free-within t kind 0 (omega arith)
+
+  -- below the count it is free
+  pub next-is-free : nextFree t kind < countOf kind → freeAt t kind (nextFree t kind) ≡ true
+  unfolding nextFree
+  next-is-free h = free-found t kind 0 (omega arith) h
+
+  -- where one is free, the last one included, it is below the count
+  pub next-found : (j : ℕ) → j < countOf kind → freeAt t kind j ≡ true → nextFree t kind < countOf kind
+  unfolding nextFree
+  next-found j l p = omega (arith, free-not-missed t kind 0 (omega arith) j (omega arith) l p)
+
+  -- at the count none is free
+  pub next-nowhere : countOf kind ≤ nextFree t kind → (j : ℕ) → j < countOf kind → freeAt t kind j ≡ false
+  unfolding nextFree
+  next-nowhere h j l = free-nowhere t kind 0 (omega arith) (omega (arith, free-within t kind 0 (omega arith))) j (omega arith) l

@@ -9,7 +9,7 @@ use Rattle.words.specs.declared.layout.Kind.the-variants.{Model}
 use Rattle.words.specs.Layout.{countOf}
 use Rattle.words.specs.Sets.{bitOf, has}
 use Rattle.words.specs.Fields.{labelOf, nameIn, repositoryIn, schemaIn, repositories, isLabel, headerOf, typeIn, modelIn, flagsIn, values, isHeader, flagged, withFlag, withoutFlag, isFree}
-use Rattle.words.specs.Laws.Decides.{Decides, both, less, at-most, restated}
+use Rattle.logic.specs.Laws.Decides.{Decides, both, less, at-most, restated}
 use Rattle.words.specs.Laws.Sets.{has-none, has-insert, has-remove}
 
 -- ---- labels

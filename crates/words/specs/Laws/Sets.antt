@@ -13,9 +13,9 @@ use lib.Bits.{bitAnd, bitOr, and-high, or-add-and}
 use lib.Count.{ones, ones-step, ones-ones, ones-le}
 use lib.ListN.{length}
 use borrow.Author.Tests.{eq-eqb, ne-eqb, eqb-true, eqb-false, lt-ltb}
-use Rattle.words.specs.Search.{keptFrom}
+use Rattle.logic.specs.Search.{keptFrom}
 use Rattle.words.specs.Sets.{bits, none, bitOf, has, insert, remove, setOf, members, sizeOf}
-use Rattle.words.specs.Laws.Search.{kept-passes, passes-kept}
+use Rattle.logic.specs.Laws.Search.{kept-passes, passes-kept}
 
 -- ---- the bits of a number, from the lowest up
 

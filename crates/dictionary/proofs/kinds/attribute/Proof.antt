@@ -3,18 +3,9 @@ use mathlib.Core.Path.{sym, _∙_, ap}
 use native.Mathlib.Omega.{arith}
 use borrow.Author.Needs.{needs}
 use Rattle.dictionary.specs.Dictionary.{attributeOf}
-use Rattle.dictionary.specs.AttributeLaws.{attributes-few, attribute-lacking}
+use Rattle.dictionary.specs.Laws.Attributes.{attributes-few, attribute-lacking}
 use Rattle.dictionary.proofs.kinds.attribute.Statement.{statement}
 use Rattle.dictionary.proofs.kinds.attribute.Tie as tie
-
-first-requires : tie.Need-first-requires
-first-requires c κs = search needs
-
-second-requires : tie.Need-second-requires
-second-requires c κs = search needs
-
-third-requires : tie.Need-third-requires
-third-requires c κs = search needs
 
 returns : tie.Need-returns
 returns c = c .first .ensures ∙ sym (ap (attributeOf (c .before .before .args .t)) (c .before .match .keys1))
@@ -33,4 +24,4 @@ returns-4 c =
 pub attribute-spec : {M : Type 1} → statement M
 attribute-spec =
     tie.close
-    (tie.spec first-requires second-requires third-requires returns returns-2 returns-3 returns-4)
+    (tie.spec (λ c. search needs) (λ c. search needs) (λ c. search needs) returns returns-2 returns-3 returns-4)

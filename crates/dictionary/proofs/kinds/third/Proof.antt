@@ -3,9 +3,9 @@ use mathlib.Core.Path.{refl, sym, ap}
 use mathlib.Core.List.{[], _∷_}
 use Prim.Native.Nat.{ℕ}
 use Rattle.dictionary.specs.declared.answers.Attribute.{Attribute}
-use Rattle.dictionary.specs.Below.{allBelow}
+use Rattle.logic.specs.Search.{allB}
 use Rattle.dictionary.specs.Dictionary.{attributeOf, lacks, the-table}
-use Rattle.dictionary.specs.AttributeLaws.{lacking, no-type-attribute}
+use Rattle.dictionary.specs.Laws.Attributes.{lacking, no-type-attribute}
 use Rattle.dictionary.proofs.Arms.{among, default}
 use Rattle.dictionary.proofs.kinds.third.Statement.{statement}
 use Rattle.dictionary.proofs.kinds.third.Tie as tie
@@ -26,7 +26,7 @@ unfolding the-table
 returns-3 c = sym (ap the-third (c .match .keys3))
 
 returns-4 : tie.Need-returns-4
-unfolding allBelow among the-table
+unfolding allB among the-table
 returns-4 c =
     let t = c .before .args .t in
     sym

@@ -6,9 +6,8 @@ use borrow.Author.Needs.{needs}
 use borrow.Fn.Kinds.{In}
 use borrow.Fn.PlainCycle.{Measures, is, falls, and}
 use Rattle.dictionary.specs.Subtype as spec
-use Rattle.dictionary.specs.Subtype.{subtype-up, subtype-root}
-use Rattle.dictionary.specs.TypeLaws.{parent-lower}
-use Rattle.dictionary.specs.SubtypeLaws.{subtype-same}
+use Rattle.dictionary.specs.Laws.Subtypes.{subtype-up, subtype-root, subtype-same}
+use Rattle.dictionary.specs.Laws.Types.{parent-lower}
 use Rattle.dictionary.proofs.parents.subtype.Reads as subtype
 use Rattle.dictionary.proofs.parents.subtype.Kinds as subtype-kinds
 use Rattle.dictionary.proofs.parents.+subtype.Lts-subtype as subtype-lts

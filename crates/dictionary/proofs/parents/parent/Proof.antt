@@ -4,9 +4,9 @@ use mathlib.Core.Bool.{Bool, true, false, false≢true}
 use mathlib.Core.List.{[], _∷_}
 use Rattle.dictionary.specs.declared.answers.Parent.{Parent}
 use Rattle.dictionary.specs.declared.answers.Parent.the-variants.{Root, Is}
-use Rattle.dictionary.specs.Below.{allBelow}
+use Rattle.logic.specs.Search.{allB}
 use Rattle.dictionary.specs.Dictionary.{parentOf, above, the-table}
-use Rattle.dictionary.specs.TypeLaws.{no-type-parent}
+use Rattle.dictionary.specs.Laws.Types.{no-type-parent}
 use Rattle.dictionary.proofs.Arms.{among, default}
 use Rattle.dictionary.proofs.parents.parent.Statement.{statement}
 use Rattle.dictionary.proofs.parents.parent.Tie as tie
@@ -47,7 +47,7 @@ unfolding the-table
 returns-7 c = sym (ap parentOf (c .match .keys7))
 
 returns-8 : tie.Need-returns-8
-unfolding allBelow among the-table
+unfolding allB among the-table
 returns-8 c =
     let t = c .before .args .t in
     root (parentOf t)

@@ -5,10 +5,11 @@ use Prim.Native.Nat.{ℕ}
 use lib.Dec.{eqb}
 use borrow.Author.Needs.{needs}
 use borrow.Author.Tests.{eq-eqb, eqb-true}
-use Rattle.dictionary.specs.Below.{allBelow}
+use Rattle.logic.specs.Search.{allB}
 use Rattle.dictionary.specs.Dictionary.{the-table}
-use Rattle.dictionary.specs.References.{noReference, referenceOf, maskBelow, targetsOf}
-use Rattle.dictionary.specs.Shapes.{packedOf, shapeOf, no-type-shape}
+use Rattle.dictionary.specs.Quick.References.{noReference, referenceOf, maskBelow, targetsOf}
+use Rattle.dictionary.specs.Quick.Shapes.{packedOf, shapeOf}
+use Rattle.dictionary.specs.Laws.Shapes.{no-type-shape}
 use Rattle.dictionary.specs.Subtype.{subtype}
 use Rattle.dictionary.proofs.Arms.{among, default}
 use Rattle.dictionary.proofs.shapes.shape.Statement.{statement}
@@ -16,39 +17,6 @@ use Rattle.dictionary.proofs.shapes.shape.Tie as tie
 
 abbrev blank : ℕ
 blank = packedOf 0 noReference 0
-
-packed-requires : tie.Need-packed-requires
-packed-requires c κs = search needs
-
-packed-requires-2 : tie.Need-packed-requires-2
-packed-requires-2 c κs = search needs
-
-packed-requires-3 : tie.Need-packed-requires-3
-packed-requires-3 c κs = search needs
-
-packed-requires-4 : tie.Need-packed-requires-4
-packed-requires-4 c κs = search needs
-
-packed-requires-5 : tie.Need-packed-requires-5
-packed-requires-5 c κs = search needs
-
-packed-requires-6 : tie.Need-packed-requires-6
-packed-requires-6 c κs = search needs
-
-packed-requires-7 : tie.Need-packed-requires-7
-packed-requires-7 c κs = search needs
-
-packed-requires-8 : tie.Need-packed-requires-8
-packed-requires-8 c κs = search needs
-
-packed-requires-9 : tie.Need-packed-requires-9
-packed-requires-9 c κs = search needs
-
-packed-requires-10 : tie.Need-packed-requires-10
-packed-requires-10 c κs = search needs
-
-packed-requires-11 : tie.Need-packed-requires-11
-packed-requires-11 c κs = search needs
 
 returns : tie.Need-returns
 unfolding maskBelow referenceOf targetsOf subtype shapeOf the-table
@@ -91,7 +59,7 @@ unfolding maskBelow referenceOf targetsOf subtype shapeOf the-table
 returns-10 c = c .packed10 .ensures ∙ sym (ap shapeOf (c .before .match .keys10))
 
 returns-11 : tie.Need-returns-11
-unfolding allBelow among maskBelow referenceOf targetsOf subtype shapeOf the-table
+unfolding allB among maskBelow referenceOf targetsOf subtype shapeOf the-table
 returns-11 c =
     let t = c .before .before .args .t in
     c .packed11 .ensures
@@ -103,17 +71,17 @@ pub shape-spec : {M : Type 1} → statement M
 shape-spec =
     tie.close
     (tie.spec
-    packed-requires
-    packed-requires-2
-    packed-requires-3
-    packed-requires-4
-    packed-requires-5
-    packed-requires-6
-    packed-requires-7
-    packed-requires-8
-    packed-requires-9
-    packed-requires-10
-    packed-requires-11
+    (λ c. search needs)
+    (λ c. search needs)
+    (λ c. search needs)
+    (λ c. search needs)
+    (λ c. search needs)
+    (λ c. search needs)
+    (λ c. search needs)
+    (λ c. search needs)
+    (λ c. search needs)
+    (λ c. search needs)
+    (λ c. search needs)
     returns
     returns-2
     returns-3

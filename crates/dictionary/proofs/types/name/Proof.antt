@@ -4,45 +4,12 @@ use mathlib.Core.Bool.{not}
 use mathlib.Core.List.{[], _∷_}
 use borrow.Author.Needs.{needs}
 use borrow.Author.Tests.{not-true}
-use Rattle.dictionary.specs.Below.{allBelow}
+use Rattle.logic.specs.Search.{allB}
 use Rattle.dictionary.specs.Dictionary.{types, isType, nameOf, dictionary, the-table}
-use Rattle.dictionary.specs.TypeLaws.{no-type-name}
+use Rattle.dictionary.specs.Laws.Types.{no-type-name}
 use Rattle.dictionary.proofs.Arms.{among, default}
 use Rattle.dictionary.proofs.types.name.Statement.{statement}
 use Rattle.dictionary.proofs.types.name.Tie as tie
-
-named-requires : tie.Need-named-requires
-named-requires c κs = search needs
-
-named-requires-2 : tie.Need-named-requires-2
-named-requires-2 c κs = search needs
-
-named-requires-3 : tie.Need-named-requires-3
-named-requires-3 c κs = search needs
-
-named-requires-4 : tie.Need-named-requires-4
-named-requires-4 c κs = search needs
-
-named-requires-5 : tie.Need-named-requires-5
-named-requires-5 c κs = search needs
-
-named-requires-6 : tie.Need-named-requires-6
-named-requires-6 c κs = search needs
-
-named-requires-7 : tie.Need-named-requires-7
-named-requires-7 c κs = search needs
-
-named-requires-8 : tie.Need-named-requires-8
-named-requires-8 c κs = search needs
-
-named-requires-9 : tie.Need-named-requires-9
-named-requires-9 c κs = search needs
-
-named-requires-10 : tie.Need-named-requires-10
-named-requires-10 c κs = search needs
-
-named-requires-11 : tie.Need-named-requires-11
-named-requires-11 c κs = search needs
 
 returns : tie.Need-returns
 unfolding the-table
@@ -85,7 +52,7 @@ unfolding the-table
 returns-10 c = c .named10 .ensures ∙ sym (ap nameOf (c .before .before .before .match .keys10))
 
 returns-11 : tie.Need-returns-11
-unfolding allBelow among types dictionary
+unfolding allB among types dictionary
 returns-11 c =
     let t = c .before .before .args .t in
     c .named11 .ensures
@@ -99,17 +66,17 @@ pub name-spec : {M : Type 1} → statement M
 name-spec =
     tie.close
     (tie.spec
-    named-requires
-    named-requires-2
-    named-requires-3
-    named-requires-4
-    named-requires-5
-    named-requires-6
-    named-requires-7
-    named-requires-8
-    named-requires-9
-    named-requires-10
-    named-requires-11
+    (λ c. search needs)
+    (λ c. search needs)
+    (λ c. search needs)
+    (λ c. search needs)
+    (λ c. search needs)
+    (λ c. search needs)
+    (λ c. search needs)
+    (λ c. search needs)
+    (λ c. search needs)
+    (λ c. search needs)
+    (λ c. search needs)
     returns
     returns-2
     returns-3

@@ -4,24 +4,25 @@ use mathlib.Core.Bool.{_||_}
 use native.Mathlib.Omega.{arith}
 use lib.Dec.{eqb, ltb}
 use borrow.Author.Tests.{eqb-true, le-ltb}
-use Rattle.dictionary.specs.Below.{allBelow, below}
+use Rattle.logic.specs.Search.{allB}
+use Rattle.logic.specs.Laws.Search.{all-at}
 use Rattle.dictionary.specs.Dictionary.{types, schemaOf, the-table}
-use Rattle.dictionary.specs.TypeLaws.{no-type-schema}
+use Rattle.dictionary.specs.Laws.Types.{no-type-schema}
 use Rattle.dictionary.proofs.types.schema.Statement.{statement}
 use Rattle.dictionary.proofs.types.schema.Tie as tie
 
 returns : tie.Need-returns
-unfolding allBelow the-table
+unfolding allB the-table
 returns c =
     let t = c .before .args .t in
-    eqb-true 1 (schemaOf t) (below 8 (λ u. eqb 1 (schemaOf u)) refl t (omega arith))
+    eqb-true 1 (schemaOf t) (all-at 8 (λ u. eqb 1 (schemaOf u)) refl t (omega arith))
 
 returns-2 : tie.Need-returns-2
-unfolding allBelow the-table
+unfolding allB the-table
 returns-2 c =
     let t = c .before .before .args .t in
     eqb-true 2 (schemaOf t)
-    (rw (le-ltb t 8 (omega arith)) at (below types (λ u. ltb u 8 || eqb 2 (schemaOf u)) refl t (omega arith)))
+    (rw (le-ltb t 8 (omega arith)) at (all-at types (λ u. ltb u 8 || eqb 2 (schemaOf u)) refl t (omega arith)))
 
 returns-3 : tie.Need-returns-3
 unfolding the-table

@@ -9,31 +9,26 @@ use borrow.Author.Needs.{needs}
 use Rattle.reader.proofs.blocks.answered.Statement.{statement}
 use Rattle.reader.proofs.blocks.answered.Tie as tie
 
-core-requires : tie.Need-core-requires
-core-requires c κs = search needs
-
-add-done : tie.Need-add-done
-add-done c = search needs
-
-line-requires : tie.Need-line-requires
-line-requires c κs = search needs
-
-same-length : tie.Need-same-length
-same-length c = search needs
-
-same-length-2 : tie.Need-same-length-2
-same-length-2 c = search needs
-
-same-length-3 : tie.Need-same-length-3
-same-length-3 c = search needs
-
 returns : tie.Need-returns
-returns c = let n = c .before .before .before .before .before .before .before .before .before .before .before .before .before .before .before .before .before .args .start .done + 1 in
-    let text = lineText n (c .before .before .before .before .before .before .before .before .before .before .before .before .before .before .before .before .before .args .rec .op) (c .before .before .before .before .before .before .before .before .before .before .core .result .refusal) (c .before .before .before .before .before .before .before .before .before .before .core .result .value) in
-    let short : length text ≤ 64 = short-line n (c .before .before .before .before .before .before .before .before .before .before .before .before .before .before .before .before .before .args .rec .op) (c .before .before .before .before .before .before .before .before .before .before .core .result .refusal) (c .before .before .before .before .before .before .before .before .before .before .core .result .value) (omega (arith, c .before .before .before .before .before .before .before .before .before .before .before .before .before .before .before .before .before .good .1 .0)) (omega (arith, c .before .before .before .before .before .before .before .before .before .before .core .ok)) (omega (arith, c .before .before .before .before .before .before .before .before .before .before .core .ok)) in
-    (call-stands (c .before .before .before .before .before .before .before .before .before .before .before .before .before .before .before .before .before .args .start) (c .before .before .before .before .before .before .before .before .before .before .before .before .before .before .before .before .before .args .rec) (c .before .before .before .before .before .before .before .before .before .before .before .before .before .before .before .before .before .args .out .now) (c .before .before .before .before .before .before .before .before .before .before .before .before .before .before .before .before .before .args .working .now) (c .before .before .before .before .before .before .before .before .before .before .before .before .before .before .before .before .before .args .kept .now) (c .before .before .before .line .last .0) (c .before .before .before .before .before .before .before .before .before .before .core .last .1 .1 .1 .1 .1 .0) (c .before .before .before .before .before .before .before .before .before .before .core .last .1 .1 .1 .1 .1 .1 .0) (c .before .before .before .before .before .before .before .before .before .before .core .result) (c .before .before .before .line .result) (c .before .before .before .before .before .before .before .before .before .before .core .ensures) (text-more (c .before .before .before .before .before .before .before .before .before .before .before .before .before .before .before .before .before .args .start) (c .before .before .before .before .before .before .before .before .before .before .before .before .before .before .before .before .before .args .out .now) (c .before .before .before .line .last .0) (c .before .before .before .line .result) text (c .before .before .before .before .before .before .before .before .before .before .before .before .before .before .before .before .before .pre .fits) short (c .before .before .before .line .ensures .0) (c .before .before .before .line .ensures .1)), record { short = at-most (c .before .before .before .before .before .before .before .before .before .before .before .before .before .before .before .before .before .args .start) (c .before .before .before .before .before .before .before .before .before .before .before .before .before .before .before .before .before .args .out .now) (c .before .before .before .line .last .0) (c .before .before .before .line .result) text (c .before .before .before .before .before .before .before .before .before .before .before .before .before .before .before .before .before .pre .fits) short (c .before .before .before .line .ensures .0) (c .before .before .before .line .ensures .1); one = omega arith })
+returns c =
+    let line = c .before .before .before .line in
+    let earlier = c .before .before .before .before .before .before .before .before .before in
+    let core = earlier .before .core in
+    let args = earlier .before .before .before .before .before .before .before .before .args in
+    let good = earlier .before .before .before .before .before .before .before .before .good in
+    let pre = earlier .before .before .before .before .before .before .before .before .pre in
+    let n = args .start .done + 1 in
+    let text = lineText n (args .rec .op) (core .result .refusal) (core .result .value) in
+    let short : length text ≤ 64 =
+    short-line n (args .rec .op) (core .result .refusal) (core .result .value) (omega (arith, good .1 .0)) (omega (arith, core .ok)) (omega (arith, core .ok)) in
+    let more = text-more (args .start) (args .out .now) (line .last .0) (line .result) text (pre .fits) short (line .ensures .0) (line .ensures .1) in
+    let fits = at-most (args .start) (args .out .now) (line .last .0) (line .result) text (pre .fits) short (line .ensures .0) (line .ensures .1) in (
+      call-stands (args .start) (args .rec) (args .out .now) (args .working .now) (args .kept .now)
+          (line .last .0) (core .last .1 .1 .1 .1 .1 .0) (core .last .1 .1 .1 .1 .1 .1 .0) (core .result) (line .result) (core .ensures) more,
+      record { short = fits; one = omega arith },
+    )
 
 pub answered-spec : {M : Type 1} → statement M
 answered-spec =
     tie.close
-    (tie.spec core-requires add-done line-requires same-length same-length-2 same-length-3 returns)
+    (tie.spec (λ c. search needs) (λ c. search needs) (λ c. search needs) (λ c. search needs) (λ c. search needs) (λ c. search needs) returns)

@@ -20,35 +20,38 @@ abbrev μ-loop : tie.MeasureT-loop
 μ-loop out₀ at k n i₀ rest₀ out i rest = i
 
 loop-holds : tie.Need-loop-holds Inv-loop μ-loop
-loop-holds c = let l : length (digits (c .before .args .k) (c .before .args .n)) ≤ c .before .args .k = omega (arith, length-digits (c .before .args .k) (c .before .args .n)) in
-    (omega arith, take-all (c .before .args .k) (digits (c .before .args .k) (c .before .args .n)) l, rw (drop-of-length-le (digits (c .before .args .k) (c .before .args .n)) {i = c .before .args .k} l) (sym (over-nothing (c .before .args .out .now) (c .before .args .at + c .before .args .k))), refl)
-
-sub-i : tie.Need-sub-i Inv-loop μ-loop
-sub-i c = omega arith
-
-digit-requires : tie.Need-digit-requires Inv-loop μ-loop
-digit-requires c κs = search needs
-
-add-out : tie.Need-add-out Inv-loop μ-loop
-add-out c = omega arith
-
-slice-write-out : tie.Need-slice-write-out Inv-loop μ-loop
-slice-write-out c = omega arith
-
-loop-less : tie.Need-loop-less Inv-loop μ-loop
-loop-less c = omega arith
+loop-holds c =
+    let args = c .before .args in
+    let l : length (digits (args .k) (args .n)) ≤ args .k = omega (arith, length-digits (args .k) (args .n)) in (
+      omega arith,
+      take-all (args .k) (digits (args .k) (args .n)) l,
+      rw (drop-of-length-le (digits (args .k) (args .n)) {i = args .k} l) (sym (over-nothing (args .out .now) (args .at + args .k))),
+      refl,
+    )
 
 loop-again : tie.Need-loop-again Inv-loop μ-loop
-loop-again c = let one : c .before .before .loop .i ≡ suc (c .before .before .loop .i - 1) = omega arith in
-    let less : c .before .before .loop .i - 1 < c .before .before .before .before .args .k = omega arith in
-    (omega arith, digits-before (c .before .before .before .before .args .k) (c .before .before .before .before .args .n) (c .before .before .loop .i) (c .before .before .loop .i - 1) (c .before .before .loop .rest) one less (c .before .before .loop .inv .1), ap (λ (l : List ℕ). set l (c .before .before .before .before .args .at + (c .before .before .loop .i - 1)) (c .digit .result)) (c .before .before .loop .inv .2) ∙ rw (c .digit .ensures) (digit-more (c .before .before .before .before .args .k) (c .before .before .before .before .args .n) (c .before .before .loop .i) (c .before .before .loop .i - 1) (c .before .before .loop .rest) one less (c .before .before .loop .inv .1) (c .before .before .before .before .args .out .now) (c .before .before .before .before .args .at) (omega arith)), length-set (c .before .before .loop .out) _ _ ∙ c .before .before .loop .inv .3)
+loop-again c =
+    let loop = c .before .before .loop in
+    let args = c .before .before .before .before .args in
+    let one : loop .i ≡ suc (loop .i - 1) = omega arith in
+    let less : loop .i - 1 < args .k = omega arith in (
+      omega arith,
+      digits-before (args .k) (args .n) (loop .i) (loop .i - 1) (loop .rest) one less (loop .inv .1),
+      ap (λ (l : List ℕ). set l (args .at + (loop .i - 1)) (c .digit .result)) (loop .inv .2)
+          ∙ rw (c .digit .ensures) (digit-more (args .k) (args .n) (loop .i) (loop .i - 1) (loop .rest) one less (loop .inv .1) (args .out .now) (args .at) (omega arith)),
+      length-set (loop .out) _ _ ∙ loop .inv .3,
+    )
 
 same-length : tie.Need-same-length Inv-loop μ-loop
 same-length c = c .before .loop .inv .3
 
 returns : tie.Need-returns Inv-loop μ-loop
-returns c = let z : c .before .loop .i ≡ 0 = omega arith in
-    c .before .loop .inv .2 ∙ ap (λ (m : ℕ). over (c .before .before .before .args .out .now) (c .before .before .before .args .at + m) (drop m (digits (c .before .before .before .args .k) (c .before .before .before .args .n)))) z ∙ ap (λ (m : ℕ). over (c .before .before .before .args .out .now) m (digits (c .before .before .before .args .k) (c .before .before .before .args .n))) (add-zero (c .before .before .before .args .at))
+returns c =
+    let args = c .before .before .before .args in
+    let z : c .before .loop .i ≡ 0 = omega arith in
+    c .before .loop .inv .2
+    ∙ ap (λ (m : ℕ). over (args .out .now) (args .at + m) (drop m (digits (args .k) (args .n)))) z
+    ∙ ap (λ (m : ℕ). over (args .out .now) m (digits (args .k) (args .n))) (add-zero (args .at))
 
 pub spell-spec : {M : Type 1} → statement M
 spell-spec =
@@ -57,11 +60,11 @@ spell-spec =
     Inv-loop
     μ-loop
     loop-holds
-    sub-i
-    digit-requires
-    add-out
-    slice-write-out
-    loop-less
+    (λ c. omega arith)
+    (λ c. search needs)
+    (λ c. omega arith)
+    (λ c. omega arith)
+    (λ c. omega arith)
     loop-again
     same-length
     returns)

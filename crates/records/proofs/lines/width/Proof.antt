@@ -15,17 +15,13 @@ abbrev μ-loop : tie.MeasureT-loop
 loop-holds : tie.Need-loop-holds Inv-loop μ-loop
 loop-holds c = (omega arith, omega arith, omega arith)
 
-add-before : tie.Need-add-before Inv-loop μ-loop
-add-before c = omega arith
-
-loop-less : tie.Need-loop-less Inv-loop μ-loop
-loop-less c = omega arith
-
 loop-again : tie.Need-loop-again Inv-loop μ-loop
-loop-again c = (still-below (c .before .loop .before) (c .before .loop .rest) (c .before .loop .inv .0) (c .before .loop .inv .1) (c .loop-test .taken), tens-below (c .before .loop .before) (c .before .loop .rest) (c .before .loop .inv .0) (c .before .loop .inv .1), omega (arith, width-more (c .before .loop .before) (c .before .loop .rest) (c .before .loop .inv .0) (c .loop-test .taken)))
-
-add-result : tie.Need-add-result Inv-loop μ-loop
-add-result c = omega arith
+loop-again c =
+    let loop = c .before .loop in (
+      still-below (loop .before) (loop .rest) (loop .inv .0) (loop .inv .1) (c .loop-test .taken),
+      tens-below (loop .before) (loop .rest) (loop .inv .0) (loop .inv .1),
+      omega (arith, width-more (loop .before) (loop .rest) (loop .inv .0) (c .loop-test .taken)),
+    )
 
 returns : tie.Need-returns Inv-loop μ-loop
 returns c = omega (arith, width-last (c .before .loop .before) (c .before .loop .rest) (c .before .loop .inv .0) (c .loop-test .left))
@@ -33,4 +29,4 @@ returns c = omega (arith, width-last (c .before .loop .before) (c .before .loop 
 pub width-spec : {M : Type 1} → statement M
 width-spec =
     tie.close
-    (tie.spec Inv-loop μ-loop loop-holds add-before loop-less loop-again add-result returns)
+    (tie.spec Inv-loop μ-loop loop-holds (λ c. omega arith) (λ c. omega arith) loop-again (λ c. omega arith) returns)

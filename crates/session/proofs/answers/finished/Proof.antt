@@ -4,17 +4,11 @@ use borrow.Author.Needs.{needs}
 use Rattle.session.proofs.answers.finished.Statement.{statement}
 use Rattle.session.proofs.answers.finished.Tie as tie
 
-refused-requires : tie.Need-refused-requires
-refused-requires c κs = search needs
-
 returns : tie.Need-returns
 returns c = rw (ne-eqb (c .before .before .args .refusal) 0 (c .before .if1 .taken)) (c .refused .ensures)
-
-log-after-requires : tie.Need-log-after-requires
-log-after-requires c κs = search needs
 
 returns-2 : tie.Need-returns-2
 returns-2 c = rw (eq-eqb (c .before .before .before .args .refusal) 0 (c .before .before .if1 .left), c .log-after .ensures)
 
 pub finished-spec : {M : Type 1} → statement M
-finished-spec = tie.close (tie.spec refused-requires returns log-after-requires returns-2)
+finished-spec = tie.close (tie.spec (λ c. search needs) returns (λ c. search needs) returns-2)

@@ -4,12 +4,6 @@ use borrow.Author.Needs.{needs}
 use Rattle.session.proofs.answers.log_after.Statement.{statement}
 use Rattle.session.proofs.answers.log_after.Tie as tie
 
-is-open-requires : tie.Need-is-open-requires
-is-open-requires c κs = search needs
-
-blank-log-requires : tie.Need-blank-log-requires
-blank-log-requires c κs = search needs
-
 returns : tie.Need-returns
 returns c = rw (sym (c .before .is-open .ensures) ∙ c .if1 .taken)
 
@@ -17,4 +11,4 @@ returns-2 : tie.Need-returns-2
 returns-2 c = rw (sym (c .before .before .is-open .ensures) ∙ c .before .if1 .left) (c .blank-log .ensures)
 
 pub log-after-spec : {M : Type 1} → statement M
-log-after-spec = tie.close (tie.spec is-open-requires blank-log-requires returns returns-2)
+log-after-spec = tie.close (tie.spec (λ c. search needs) (λ c. search needs) returns returns-2)

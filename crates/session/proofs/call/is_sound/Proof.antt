@@ -10,27 +10,22 @@ use borrow.Author.Needs.{needs}
 use Rattle.session.proofs.call.is_sound.Statement.{statement}
 use Rattle.session.proofs.call.is_sound.Tie as tie
 
-told : (c : tie.After-sound-tables) (b : Bool) → c .sound-tables .result ≡ b → soundTables (under (c .before .before .before .before .before .args .x .state) RW) (c .before .before .before .before .before .args .working .now) (c .before .before .before .before .before .args .kept .now) ≡ b
-told c b e = sym (rw (c .before .under .ensures) at (c .sound-tables .ensures)) ∙ e
-
-under-requires : tie.Need-under-requires
-under-requires c κs = search needs
-
-sound-tables-requires : tie.Need-sound-tables-requires
-sound-tables-requires c κs = search needs
+by-cases : (c : tie.After-sound-tables) (b : Bool) → c .sound-tables .result ≡ b
+    → (let a = c .before .before .before .before .before .args in soundTables (under (a .x .state) RW) (a .working .now) (a .kept .now) ≡ b)
+by-cases c b e = sym (rw (c .before .under .ensures) at (c .sound-tables .ensures)) ∙ e
 
 returns : tie.Need-returns
 unfolding sound
-returns c = rw (told (c .before) false (not-true _ (c .if1 .taken)))
+returns c = rw (by-cases (c .before) false (not-true _ (c .if1 .taken)))
 
 sound-session-requires : tie.Need-sound-session-requires
-sound-session-requires c κs = sound-long _ _ _ (told (c .before) true (not-false _ (c .if1 .left)))
+sound-session-requires c κs = sound-long _ _ _ (by-cases (c .before) true (not-false _ (c .if1 .left)))
 
 returns-2 : tie.Need-returns-2
 unfolding sound
-returns-2 c = rw (told (c .before .before) true (not-false _ (c .before .if1 .left))) (c .sound-session .ensures)
+returns-2 c = rw (by-cases (c .before .before) true (not-false _ (c .before .if1 .left))) (c .sound-session .ensures)
 
 pub is-sound-spec : {M : Type 1} → statement M
 is-sound-spec =
     tie.close
-    (tie.spec under-requires sound-tables-requires returns sound-session-requires returns-2)
+    (tie.spec (λ c. search needs) (λ c. search needs) returns sound-session-requires returns-2)

@@ -3,18 +3,8 @@ use borrow.Author.Needs.{needs}
 use Rattle.session.proofs.conditions.away.Statement.{statement}
 use Rattle.session.proofs.conditions.away.Tie as tie
 
-label-at-requires : tie.Need-label-at-requires
-label-at-requires c κs = search needs
-
-repository-in-requires : tie.Need-repository-in-requires
-repository-in-requires c κs = search needs
-
-not-opened-requires : tie.Need-not-opened-requires
-not-opened-requires c κs = search needs
-
 returns : tie.Need-returns
-returns c = rw (c .not-opened .ensures, c .before .repository-in .ensures, c .before .before .label-at .ensures)
+returns c = cc
 
 pub away-spec : {M : Type 1} → statement M
-away-spec =
-    tie.close (tie.spec label-at-requires repository-in-requires not-opened-requires returns)
+away-spec = tie.close (tie.spec (λ c. search needs) (λ c. search needs) returns)

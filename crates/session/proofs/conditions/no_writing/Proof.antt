@@ -3,11 +3,8 @@ use borrow.Author.Needs.{needs}
 use Rattle.session.proofs.conditions.no_writing.Statement.{statement}
 use Rattle.session.proofs.conditions.no_writing.Tie as tie
 
-has-requires : tie.Need-has-requires
-has-requires c κs = search needs
-
 returns : tie.Need-returns
 returns c = rw (c .has .ensures)
 
 pub no-writing-spec : {M : Type 1} → statement M
-no-writing-spec = tie.close (tie.spec has-requires returns)
+no-writing-spec = tie.close (tie.spec (λ c. search needs) returns)

@@ -3,11 +3,8 @@ use borrow.Author.Needs.{needs}
 use Rattle.session.proofs.conditions.not_opened.Statement.{statement}
 use Rattle.session.proofs.conditions.not_opened.Tie as tie
 
-has-requires : tie.Need-has-requires
-has-requires c κs = search needs
-
 returns : tie.Need-returns
 returns c = rw (c .has .ensures)
 
 pub not-opened-spec : {M : Type 1} → statement M
-not-opened-spec = tie.close (tie.spec has-requires returns)
+not-opened-spec = tie.close (tie.spec (λ c. search needs) returns)

@@ -4,9 +4,6 @@ use borrow.Author.Needs.{needs}
 use Rattle.session.proofs.effects.if_writing.Statement.{statement}
 use Rattle.session.proofs.effects.if_writing.Tie as tie
 
-under-requires : tie.Need-under-requires
-under-requires c κs = search needs
-
 returns : tie.Need-returns
 returns c = rw (sym (c .before .under .ensures) ∙ c .if1 .taken)
 
@@ -14,4 +11,4 @@ returns-2 : tie.Need-returns-2
 returns-2 c = rw (sym (c .before .under .ensures) ∙ c .if1 .left)
 
 pub if-writing-spec : {M : Type 1} → statement M
-if-writing-spec = tie.close (tie.spec under-requires returns returns-2)
+if-writing-spec = tie.close (tie.spec (λ c. search needs) returns returns-2)

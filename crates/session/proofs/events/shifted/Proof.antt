@@ -4,71 +4,29 @@ use borrow.Author.Needs.{needs}
 use Rattle.session.proofs.events.shifted.Statement.{statement}
 use Rattle.session.proofs.events.shifted.Tie as tie
 
-array-copy-out-t6 : tie.Need-array-copy-out-t6
-array-copy-out-t6 c = search needs
-
-array-copy-out-t9 : tie.Need-array-copy-out-t9
-array-copy-out-t9 c = search needs
-
-array-copy-out-t12 : tie.Need-array-copy-out-t12
-array-copy-out-t12 c = search needs
-
-array-copy-out-t15 : tie.Need-array-copy-out-t15
-array-copy-out-t15 c = search needs
-
-array-copy-out-t18 : tie.Need-array-copy-out-t18
-array-copy-out-t18 c = search needs
-
-array-copy-out-t21 : tie.Need-array-copy-out-t21
-array-copy-out-t21 c = search needs
-
-array-copy-out-t24 : tie.Need-array-copy-out-t24
-array-copy-out-t24 c = search needs
-
-array-copy-out-t27 : tie.Need-array-copy-out-t27
-array-copy-out-t27 c = search needs
-
-array-copy-out-t30 : tie.Need-array-copy-out-t30
-array-copy-out-t30 c = search needs
-
-array-copy-out-t33 : tie.Need-array-copy-out-t33
-array-copy-out-t33 c = search needs
-
-array-copy-out-t36 : tie.Need-array-copy-out-t36
-array-copy-out-t36 c = search needs
-
-array-copy-out-t39 : tie.Need-array-copy-out-t39
-array-copy-out-t39 c = search needs
-
-array-copy-out-t42 : tie.Need-array-copy-out-t42
-array-copy-out-t42 c = search needs
-
-array-copy-out-t45 : tie.Need-array-copy-out-t45
-array-copy-out-t45 c = search needs
-
-array-copy-out-t48 : tie.Need-array-copy-out-t48
-array-copy-out-t48 c = search needs
-
 returns : tie.Need-returns
-returns c = spelled (c .before .before .before .before .before .before .before .before .before .before .before .before .before .before .before .args .t1) _ (c .before .before .before .before .before .before .before .before .before .before .before .before .before .before .before .args .e) (search needs)
+returns c =
+    let eighth = c .before .before .before .before .before .before .before in
+    let a = eighth .before .before .before .before .before .before .before .before .args in
+    spelled (a .t1) _ (a .e) (search needs)
 
 pub shifted-spec : {M : Type 1} → statement M
 shifted-spec =
     tie.close
     (tie.spec
-    array-copy-out-t6
-    array-copy-out-t9
-    array-copy-out-t12
-    array-copy-out-t15
-    array-copy-out-t18
-    array-copy-out-t21
-    array-copy-out-t24
-    array-copy-out-t27
-    array-copy-out-t30
-    array-copy-out-t33
-    array-copy-out-t36
-    array-copy-out-t39
-    array-copy-out-t42
-    array-copy-out-t45
-    array-copy-out-t48
+    (λ c. search needs)
+    (λ c. search needs)
+    (λ c. search needs)
+    (λ c. search needs)
+    (λ c. search needs)
+    (λ c. search needs)
+    (λ c. search needs)
+    (λ c. search needs)
+    (λ c. search needs)
+    (λ c. search needs)
+    (λ c. search needs)
+    (λ c. search needs)
+    (λ c. search needs)
+    (λ c. search needs)
+    (λ c. search needs)
     returns)

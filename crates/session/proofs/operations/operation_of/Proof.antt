@@ -5,7 +5,7 @@ use Prim.Native.Nat.{ℕ}
 use mathlib.Core.List.{List, [], _∷_}
 use native.Mathlib.Omega.{arith}
 use Rattle.dictionary.proofs.Arms.{among, none-among}
-use Rattle.words.specs.Search.{allB}
+use Rattle.logic.specs.Search.{allB}
 use Rattle.session.specs.Operations.{operationOf}
 use Rattle.session.specs.Laws.Operations.{the-list, past-the-list, between}
 use Rattle.session.proofs.operations.operation_of.Statement.{statement}
@@ -14,9 +14,6 @@ use Rattle.session.proofs.operations.operation_of.Tie as tie
 -- the single numbers of the `match`, the last first
 abbrev keys : List ℕ
 keys = 46 ∷ 13 ∷ 12 ∷ 11 ∷ 10 ∷ 9 ∷ 8 ∷ 7 ∷ 6 ∷ 5 ∷ 4 ∷ 3 ∷ 2 ∷ 1 ∷ []
-
-transacted-requires : tie.Need-transacted-requires
-transacted-requires c κs = omega arith
 
 returns : tie.Need-returns
 unfolding the-list
@@ -88,7 +85,7 @@ pub operation-of-spec : {M : Type 1} → statement M
 operation-of-spec =
     tie.close
     (tie.spec
-    transacted-requires
+    (λ c κs. omega arith)
     returns
     returns-2
     returns-3

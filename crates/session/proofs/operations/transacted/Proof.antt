@@ -3,12 +3,12 @@ use mathlib.Core.Bool.{_||_}
 use Prim.Native.Nat.{ℕ, suc-le-suc}
 use lib.Dec.{ltb, leb}
 use borrow.Author.Tests.{le-ltb, lt-leb}
-use Rattle.words.specs.Laws.Bools.{or-none}
+use Rattle.logic.specs.Laws.Bools.{or-none}
 use mathlib.Core.Path.{sym, ap, refl}
 use mathlib.Core.List.{List, [], _∷_}
 use native.Mathlib.Omega.{arith}
 use Rattle.dictionary.proofs.Arms.{among, none-among}
-use Rattle.words.specs.Search.{allB}
+use Rattle.logic.specs.Search.{allB}
 use Rattle.session.specs.Operations.{operationOf}
 use Rattle.session.specs.Laws.Operations.{the-list, between}
 use Rattle.session.proofs.operations.transacted.Statement.{statement}
@@ -17,9 +17,6 @@ use Rattle.session.proofs.operations.transacted.Tie as tie
 -- the single numbers of the `match`, the last first
 abbrev keys : List ℕ
 keys = 45 ∷ 44 ∷ 43 ∷ 42 ∷ 41 ∷ 40 ∷ 24 ∷ 23 ∷ 22 ∷ 21 ∷ 20 ∷ []
-
-of-schema-instances-requires : tie.Need-of-schema-instances-requires
-of-schema-instances-requires c κs = omega arith
 
 returns : tie.Need-returns
 unfolding the-list
@@ -70,17 +67,23 @@ returns-12 c = c .of-schema-instances .ensures
 
 returns-13 : tie.Need-returns-13
 unfolding the-list allB among
-returns-13 c = sym (between 30 (λ (i : ℕ). ltb i 20 || among keys i) refl (c .before .before .args .number) (c .if1 .taken) (or-none _ _ (le-ltb (c .before .before .args .number) 20 (c .before .before .pre .0)) (none-among keys (c .before .before .args .number) (c .before .match .rest))))
+returns-13 c =
+    let n = c .before .before .args .number in
+    let outside = or-none _ _ (le-ltb n 20 (c .before .before .pre .0)) (none-among keys n (c .before .match .rest)) in
+    sym (between 30 (λ (i : ℕ). ltb i 20 || among keys i) refl n (c .if1 .taken) outside)
 
 returns-14 : tie.Need-returns-14
 unfolding the-list allB among
-returns-14 c = sym (between 46 (λ (i : ℕ). leb i 33 || among keys i) refl (c .before .before .before .args .number) (suc-le-suc (c .before .before .before .pre .1)) (or-none _ _ (lt-leb (c .before .before .before .args .number) 33 (c .if2 .left)) (none-among keys (c .before .before .before .args .number) (c .before .before .match .rest))))
+returns-14 c =
+    let n = c .before .before .before .args .number in
+    let outside = or-none _ _ (lt-leb n 33 (c .if2 .left)) (none-among keys n (c .before .before .match .rest)) in
+    sym (between 46 (λ (i : ℕ). leb i 33 || among keys i) refl n (suc-le-suc (c .before .before .before .pre .1)) outside)
 
 pub transacted-spec : {M : Type 1} → statement M
 transacted-spec =
     tie.close
     (tie.spec
-    of-schema-instances-requires
+    (λ c κs. omega arith)
     returns
     returns-2
     returns-3

@@ -4,12 +4,9 @@ use borrow.Author.Needs.{needs}
 use Rattle.session.proofs.sound.sound_log.Statement.{statement}
 use Rattle.session.proofs.sound.sound_log.Tie as tie
 
-sound-places-requires : tie.Need-sound-places-requires
-sound-places-requires c κs = search needs
-
 returns : tie.Need-returns
 unfolding soundLog
 returns c = rw (c .sound-places .ensures)
 
 pub sound-log-spec : {M : Type 1} → statement M
-sound-log-spec = tie.close (tie.spec sound-places-requires returns)
+sound-log-spec = tie.close (tie.spec (λ c. search needs) returns)

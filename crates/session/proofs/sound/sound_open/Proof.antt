@@ -5,9 +5,6 @@ use borrow.Author.Needs.{needs}
 use Rattle.session.proofs.sound.sound_open.Statement.{statement}
 use Rattle.session.proofs.sound.sound_open.Tie as tie
 
-is-open-requires : tie.Need-is-open-requires
-is-open-requires c κs = search needs
-
 returns : tie.Need-returns
 unfolding soundOpen
 returns c = rw (sym (c .before .is-open .ensures) ∙ c .if1 .taken)
@@ -17,4 +14,4 @@ unfolding soundOpen
 returns-2 c = rw (sym (c .before .before .before .before .before .before .is-open .ensures) ∙ c .before .before .before .before .before .if1 .left)
 
 pub sound-open-spec : {M : Type 1} → statement M
-sound-open-spec = tie.close (tie.spec is-open-requires returns returns-2)
+sound-open-spec = tie.close (tie.spec (λ c. search needs) returns returns-2)

@@ -5,7 +5,7 @@ use native.Mathlib.Omega.{arith}
 use native.Mathlib.Numerals.{add-one}
 use borrow.Author.Needs.{needs}
 use lib.ListN.{getD}
-use Rattle.words.specs.Search.{allB}
+use Rattle.logic.specs.Search.{allB}
 use Rattle.session.specs.States.{places, blankEvent}
 use Rattle.session.specs.Sound.{soundPlace}
 use Rattle.session.specs.Laws.Sound.{by-places}
@@ -22,21 +22,6 @@ loop-holds : tie.Need-loop-holds Inv-loop μ-loop
 unfolding allB
 loop-holds c = (omega arith, refl)
 
-mul-e : tie.Need-mul-e Inv-loop μ-loop
-mul-e c = omega arith
-
-array-copy-out-e : tie.Need-array-copy-out-e Inv-loop μ-loop
-array-copy-out-e c = omega arith
-
-sound-place-requires : tie.Need-sound-place-requires Inv-loop μ-loop
-sound-place-requires c κs = search needs
-
-add-i : tie.Need-add-i Inv-loop μ-loop
-add-i c = omega arith
-
-loop-less : tie.Need-loop-less Inv-loop μ-loop
-loop-less c = omega arith
-
 loop-again : tie.Need-loop-again Inv-loop μ-loop
 unfolding allB
 loop-again c = (omega arith, rw (add-one, c .sound-place .ensures, c .before .before .before .loop .inv .1))
@@ -51,10 +36,10 @@ sound-places-spec =
     Inv-loop
     μ-loop
     loop-holds
-    mul-e
-    array-copy-out-e
-    sound-place-requires
-    add-i
-    loop-less
+    (λ c. omega arith)
+    (λ c. omega arith)
+    (λ Inv-loop μ-loop. search needs)
+    (λ c. omega arith)
+    (λ c. omega arith)
     loop-again
     returns)

@@ -4,20 +4,8 @@ use borrow.Author.Needs.{needs}
 use Rattle.tables.proofs.going.goes.Statement.{statement}
 use Rattle.tables.proofs.going.goes.Tie as tie
 
-cast-has : tie.Need-cast-has
-cast-has c = search needs
-
-has-requires : tie.Need-has-requires
-has-requires c κs = search needs
-
 returns : tie.Need-returns
 returns c = rw (lt-ltb (c .before .before .args .j) 64 (c .before .if1 .taken)) (c .has .ensures)
-
-cast-has-2 : tie.Need-cast-has-2
-cast-has-2 c = search needs
-
-has-requires-2 : tie.Need-has-requires-2
-has-requires-2 c κs = search needs
 
 returns-2 : tie.Need-returns-2
 returns-2 c = rw (le-ltb (c .before .before .before .args .j) 64 (c .before .before .if1 .left), lt-ltb (c .before .before .before .args .j) 128 (c .before .if2 .taken)) (c .has2 .ensures)
@@ -28,4 +16,4 @@ returns-3 c = rw (le-ltb (c .before .before .before .args .j) 64 (c .before .bef
 pub goes-spec : {M : Type 1} → statement M
 goes-spec =
     tie.close
-    (tie.spec cast-has has-requires returns cast-has-2 has-requires-2 returns-2 returns-3)
+    (tie.spec (λ c. search needs) (λ c. search needs) returns (λ c. search needs) (λ c. search needs) returns-2 returns-3)

@@ -4,13 +4,14 @@ use Prim.Native.Nat.{_+_, _-_, _≤_}
 use native.Mathlib.Omega.{arith}
 use native.Mathlib.Numerals.{add-one}
 use borrow.Author.Needs.{needs}
+use Rattle.words.specs.declared.layout.Kind.the-variants.{Model}
 use Rattle.words.specs.Sets.{bits, setOf}
-use Rattle.tables.specs.References.{thoseOf}
+use Rattle.tables.specs.Deletions.{goesWith}
 use Rattle.tables.proofs.going.half_of.Statement.{statement}
 use Rattle.tables.proofs.going.half_of.Tie as tie
 
 abbrev Inv-loop : tie.InvT-loop
-Inv-loop t m from set₀ i₀ set i = (i ≤ bits) × (set ≡ setOf i (λ j. thoseOf t m (from + j)))
+Inv-loop t m from set₀ i₀ set i = (i ≤ bits) × (set ≡ setOf i (λ j. goesWith t Model m (from + j)))
 
 abbrev μ-loop : tie.MeasureT-loop
 μ-loop t m from set₀ i₀ set i = bits - i
@@ -18,21 +19,6 @@ abbrev μ-loop : tie.MeasureT-loop
 loop-holds : tie.Need-loop-holds Inv-loop μ-loop
 unfolding setOf
 loop-holds c = (omega arith, refl)
-
-add-is-of : tie.Need-add-is-of Inv-loop μ-loop
-add-is-of c = omega arith
-
-is-of-requires : tie.Need-is-of-requires Inv-loop μ-loop
-is-of-requires c κs = search needs
-
-with-if-requires : tie.Need-with-if-requires Inv-loop μ-loop
-with-if-requires c κs = search needs
-
-add-i : tie.Need-add-i Inv-loop μ-loop
-add-i c = omega arith
-
-loop-less : tie.Need-loop-less Inv-loop μ-loop
-loop-less c = omega arith
 
 loop-again : tie.Need-loop-again Inv-loop μ-loop
 unfolding setOf
@@ -48,10 +34,10 @@ half-of-spec =
     Inv-loop
     μ-loop
     loop-holds
-    add-is-of
-    is-of-requires
-    with-if-requires
-    add-i
-    loop-less
+    (λ c. omega arith)
+    (λ c. search needs)
+    (λ c. search needs)
+    (λ c. omega arith)
+    (λ c. omega arith)
     loop-again
     returns)

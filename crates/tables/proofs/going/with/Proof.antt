@@ -4,17 +4,8 @@ use borrow.Author.Needs.{needs}
 use Rattle.tables.proofs.going.with.Statement.{statement}
 use Rattle.tables.proofs.going.with.Tie as tie
 
-with-requires : tie.Need-with-requires
-with-requires c κs = search needs
-
 returns : tie.Need-returns
 returns c = rw (c .with .ensures, lt-ltb (c .before .before .args .j) 64 (c .before .if1 .taken))
-
-cast-with : tie.Need-cast-with
-cast-with c = search needs
-
-with-requires-2 : tie.Need-with-requires-2
-with-requires-2 c κs = search needs
 
 returns-2 : tie.Need-returns-2
 returns-2 c = rw (le-ltb (c .before .before .before .args .j) 64 (c .before .before .if1 .left), lt-ltb (c .before .before .before .args .j) 128 (c .before .if2 .taken), c .with2 .ensures)
@@ -24,4 +15,4 @@ returns-3 c = rw (le-ltb (c .before .before .args .j) 64 (c .before .if1 .left),
 
 pub with-spec : {M : Type 1} → statement M
 with-spec =
-    tie.close (tie.spec with-requires returns cast-with with-requires-2 returns-2 returns-3)
+    tie.close (tie.spec (λ c. search needs) returns (λ c. search needs) (λ c. search needs) returns-2 returns-3)

@@ -3,9 +3,6 @@ use borrow.Author.Needs.{needs}
 use Rattle.tables.proofs.going.with_if.Statement.{statement}
 use Rattle.tables.proofs.going.with_if.Tie as tie
 
-with-requires : tie.Need-with-requires
-with-requires c κs = search needs
-
 returns : tie.Need-returns
 returns c = rw (c .before .if1 .taken) (c .with .ensures)
 
@@ -13,4 +10,4 @@ returns-2 : tie.Need-returns-2
 returns-2 c = rw (c .if1 .left)
 
 pub with-if-spec : {M : Type 1} → statement M
-with-if-spec = tie.close (tie.spec with-requires returns returns-2)
+with-if-spec = tie.close (tie.spec (λ c. search needs) returns returns-2)

@@ -4,11 +4,8 @@ use borrow.Author.Needs.{needs}
 use Rattle.tables.proofs.live.is_member.Statement.{statement}
 use Rattle.tables.proofs.live.is_member.Tie as tie
 
-has-requires : tie.Need-has-requires
-has-requires c κs = search needs
-
 returns : tie.Need-returns
 returns c = rw (c .has .ensures) (has-folded (c .before .args .set) (c .before .args .m) (c .before .fits .set .fits))
 
 pub is-member-spec : {M : Type 1} → statement M
-is-member-spec = tie.close (tie.spec has-requires returns)
+is-member-spec = tie.close (tie.spec (λ c. search needs) returns)

@@ -4,12 +4,6 @@ use borrow.Author.Needs.{needs}
 use Rattle.tables.proofs.live.joined.Statement.{statement}
 use Rattle.tables.proofs.live.joined.Tie as tie
 
-with-requires : tie.Need-with-requires
-with-requires c κs = search needs
-
-with-requires-2 : tie.Need-with-requires-2
-with-requires-2 c κs = search needs
-
 returns : tie.Need-returns
 returns c = rw (eq-eqb (c .before .before .args .schema) 1 (c .before .if1 .taken), c .with .ensures)
 
@@ -17,4 +11,4 @@ returns-2 : tie.Need-returns-2
 returns-2 c = rw (ne-eqb (c .before .before .args .schema) 1 (c .before .if1 .left), c .with2 .ensures)
 
 pub joined-spec : {M : Type 1} → statement M
-joined-spec = tie.close (tie.spec with-requires with-requires-2 returns returns-2)
+joined-spec = tie.close (tie.spec (λ c. search needs) (λ c. search needs) returns returns-2)

@@ -4,8 +4,8 @@ use mathlib.Core.Bool.{true, not}
 use Prim.Native.Nat.{ℕ, _≤_, _-_}
 use native.Mathlib.Omega.{arith}
 use borrow.Author.Needs.{needs}
-use Rattle.words.specs.Search.{allB}
-use Rattle.words.specs.Laws.Search.{all-more, all-stop, all-done}
+use Rattle.logic.specs.Search.{allB}
+use Rattle.logic.specs.Laws.Search.{all-more, all-stop, all-done}
 use Rattle.tables.specs.View.{labelAt}
 use Rattle.tables.specs.Sound.{sameName}
 use Rattle.tables.proofs.names.is_new.Statement.{statement}
@@ -17,33 +17,34 @@ Inv-loop t kind i v j₀ j = (j ≤ i) × (v ≡ labelAt t kind i) × (allB j (�
 abbrev μ-loop : tie.MeasureT-loop
 μ-loop t kind i v j₀ j = i - j
 
-label-at-requires : tie.Need-label-at-requires Inv-loop μ-loop
-label-at-requires c κs = search needs
-
 loop-holds : tie.Need-loop-holds Inv-loop μ-loop
 unfolding allB
 loop-holds c = (omega arith, c .label-at .ensures, refl)
 
-label-at-requires-2 : tie.Need-label-at-requires-2 Inv-loop μ-loop
-label-at-requires-2 c κs = search needs
-
-same-name-requires : tie.Need-same-name-requires Inv-loop μ-loop
-same-name-requires c κs = search needs
-
 returns : tie.Need-returns Inv-loop μ-loop
-returns c = sym (rw (← c .before .before .before .before .loop .inv .1) (all-stop (c .before .before .before .before .before .before .before .args .i) (λ (k : ℕ). not (sameName (c .before .before .before .before .before .label-at .result) (labelAt (c .before .before .before .before .before .before .before .args .t .now) (c .before .before .before .before .before .before .before .args .kind) k))) (c .before .before .before .before .loop .j) (c .before .before .before .loop-test .taken) (ap not (rw (c .before .before .label-at2 .ensures) at (sym (c .before .same-name .ensures) ∙ c .if1 .taken)))))
-
-add-j : tie.Need-add-j Inv-loop μ-loop
-add-j c = omega arith
-
-loop-less : tie.Need-loop-less Inv-loop μ-loop
-loop-less c = omega arith
+returns c =
+    let a = c .before .before .before .before .before .before .before .args in
+    let the-label-at = c .before .before .before .before .before .label-at in
+    let the-loop = c .before .before .before .before .loop in
+    sym (rw (← the-loop .inv .1) (all-stop (a .i) (λ (k : ℕ). not (sameName (the-label-at .result) (labelAt (a .t .now) (a .kind) k))) (the-loop .j)
+    (c .before .before .before .loop-test .taken) (ap not (rw (c .before .before .label-at2 .ensures) at (sym (c .before .same-name .ensures) ∙ c .if1 .taken)))))
 
 loop-again : tie.Need-loop-again Inv-loop μ-loop
-loop-again c = (omega arith, c .before .before .before .before .loop .inv .1, all-more (λ (k : ℕ). not (sameName (c .before .before .before .before .before .label-at .result) (labelAt (c .before .before .before .before .before .before .before .args .t .now) (c .before .before .before .before .before .before .before .args .kind) k))) (c .before .before .before .before .loop .j) (c .before .before .before .before .loop .inv .2) (ap not (rw (c .before .before .label-at2 .ensures) at (sym (c .before .same-name .ensures) ∙ c .if1 .left))))
+loop-again c =
+    let a = c .before .before .before .before .before .before .before .args in
+    let the-label-at = c .before .before .before .before .before .label-at in
+    let the-loop = c .before .before .before .before .loop in (
+      omega arith,
+      the-loop .inv .1,
+      all-more (λ (k : ℕ). not (sameName (the-label-at .result) (labelAt (a .t .now) (a .kind) k))) (the-loop .j) (the-loop .inv .2)
+          (ap not (rw (c .before .before .label-at2 .ensures) at (sym (c .before .same-name .ensures) ∙ c .if1 .left))),
+    )
 
 returns-2 : tie.Need-returns-2 Inv-loop μ-loop
-returns-2 c = sym (rw (← c .before .loop .inv .1) (all-done (λ (k : ℕ). not (sameName (c .before .before .label-at .result) (labelAt (c .before .before .before .before .args .t .now) (c .before .before .before .before .args .kind) k))) (c .before .before .before .before .args .i) (c .before .loop .j) (c .before .loop .inv .0) (c .loop-test .left) (c .before .loop .inv .2)))
+returns-2 c =
+    let a = c .before .before .before .before .args in
+    sym (rw (← c .before .loop .inv .1) (all-done (λ (k : ℕ). not (sameName (c .before .before .label-at .result) (labelAt (a .t .now) (a .kind) k))) (a .i) (c .before .loop .j)
+    (c .before .loop .inv .0) (c .loop-test .left) (c .before .loop .inv .2)))
 
 pub is-new-spec : {M : Type 1} → statement M
 is-new-spec =
@@ -51,12 +52,12 @@ is-new-spec =
     (tie.spec
     Inv-loop
     μ-loop
-    label-at-requires
+    (λ c. search needs)
     loop-holds
-    label-at-requires-2
-    same-name-requires
+    (λ c. search needs)
+    (λ c. search needs)
     returns
-    add-j
-    loop-less
+    (λ c. omega arith)
+    (λ c. omega arith)
     loop-again
     returns-2)

@@ -6,7 +6,7 @@ use native.Mathlib.Numerals.{add-one}
 use borrow.Author.Needs.{needs}
 use Rattle.words.specs.declared.layout.Kind.the-variants.{Instance}
 use Rattle.words.specs.Layout.{baseOf}
-use Rattle.words.specs.Search.{allB}
+use Rattle.logic.specs.Search.{allB}
 use Rattle.words.specs.Copies.{sameAt}
 use Rattle.tables.proofs.sound.same_entries.Statement.{statement}
 use Rattle.tables.proofs.sound.same_entries.Tie as tie
@@ -17,30 +17,9 @@ Inv-loop a b n same₀ i₀ same i = (i ≤ n) × (n ≡ baseOf Instance) × (sa
 abbrev μ-loop : tie.MeasureT-loop
 μ-loop a b n same₀ i₀ same i = n - i
 
-base-requires : tie.Need-base-requires Inv-loop μ-loop
-base-requires c κs = search needs
-
 loop-holds : tie.Need-loop-holds Inv-loop μ-loop
 unfolding allB
 loop-holds c = (omega arith, c .base .ensures, refl)
-
-mul-same : tie.Need-mul-same Inv-loop μ-loop
-mul-same c = omega arith
-
-shared-slice-read-same : tie.Need-shared-slice-read-same Inv-loop μ-loop
-shared-slice-read-same c = omega arith
-
-mul-same-2 : tie.Need-mul-same-2 Inv-loop μ-loop
-mul-same-2 c = omega arith
-
-shared-slice-read-same-2 : tie.Need-shared-slice-read-same-2 Inv-loop μ-loop
-shared-slice-read-same-2 c = omega arith
-
-add-i : tie.Need-add-i Inv-loop μ-loop
-add-i c = omega arith
-
-loop-less : tie.Need-loop-less Inv-loop μ-loop
-loop-less c = omega arith
 
 loop-again : tie.Need-loop-again Inv-loop μ-loop
 unfolding allB
@@ -55,13 +34,13 @@ same-entries-spec =
     (tie.spec
     Inv-loop
     μ-loop
-    base-requires
+    (λ c. search needs)
     loop-holds
-    mul-same
-    shared-slice-read-same
-    mul-same-2
-    shared-slice-read-same-2
-    add-i
-    loop-less
+    (λ c. omega arith)
+    (λ c. omega arith)
+    (λ c. omega arith)
+    (λ c. omega arith)
+    (λ c. omega arith)
+    (λ c. omega arith)
     loop-again
     returns)

@@ -10,45 +10,44 @@ use borrow.Author.Needs.{needs}
 use Rattle.tables.proofs.sound.sound_group.Statement.{statement}
 use Rattle.tables.proofs.sound.sound_group.Tie as tie
 
-label-at-requires : tie.Need-label-at-requires
-label-at-requires c κs = search needs
-
-set-at-requires : tie.Need-set-at-requires
-set-at-requires c κs = search needs
-
-is-free-requires : tie.Need-is-free-requires
-is-free-requires c κs = search needs
-
-is-empty-requires : tie.Need-is-empty-requires
-is-empty-requires c κs = search needs
-
 returns : tie.Need-returns
 unfolding soundGroup
-returns c = rw (sym (ap isFree (c .before .before .before .before .label-at .ensures)) ∙ sym (c .before .before .is-free .ensures) ∙ c .before .if1 .taken, c .is-empty .ensures, c .before .before .before .set-at .ensures)
-
-schema-in-requires : tie.Need-schema-in-requires
-schema-in-requires c κs = search needs
-
-of-schema-requires : tie.Need-of-schema-requires
-of-schema-requires c κs = search needs
-
-is-within-requires : tie.Need-is-within-requires
-is-within-requires c κs = search needs
+returns c =
+    rw (
+      sym (ap isFree (c .before .before .before .before .label-at .ensures)) ∙ sym (c .before .before .is-free .ensures) ∙ c .before .if1 .taken,
+      c .is-empty .ensures,
+      c .before
+          .before .before .set-at .ensures,
+    )
 
 returns-2 : tie.Need-returns-2
-returns-2 c = let live : freeAt (c .before .before .before .before .before .before .before .before .args .t .now) SchemaInstance (c .before .before .before .before .before .before .before .before .args .s) ≡ false = sym (ap isFree (c .before .before .before .before .before .before .label-at .ensures)) ∙ sym (c .before .before .before .before .is-free .ensures) ∙ c .before .before .before .if1 .left in
-    rw (c .is-within .ensures, c .before .of-schema .ensures, c .before .before .schema-in .ensures, c .before .before .before .before .before .before .before .before .pre .0, c .before .before .before .before .before .before .label-at .ensures, c .before .before .before .before .before .set-at .ensures) (group-by-sets (c .before .before .before .before .before .before .before .before .args .t .now) (c .before .before .before .before .before .before .before .before .args .s) live (rw live at (c .before .before .before .before .before .before .before .before .pre .1)))
+returns-2 c =
+    let a = c .before .before .before .before .before .before .before .before .args in
+    let the-label-at = c .before .before .before .before .before .before .label-at in
+    let live : freeAt (a .t .now) SchemaInstance (a .s) ≡ false = sym (ap isFree (the-label-at .ensures)) ∙ sym (c .before .before .before .before .is-free .ensures) ∙ c .before
+    .before .before .if1 .left in
+    rw (
+      c .is-within .ensures,
+      c .before .of-schema .ensures,
+      c .before .before .schema-in .ensures,
+      c .before .before .before .before .before .before .before .before .pre .0,
+      c
+          .before .before .before .before .before .before .label-at .ensures,
+      c .before .before .before .before .before .set-at .ensures,
+    ) (group-by-sets
+    (c .before .before .before .before .before .before .before .before .args .t .now) (c .before .before .before .before .before .before .before .before .args .s) live
+    (rw live at (c .before .before .before .before .before .before .before .before .pre .1)))
 
 pub sound-group-spec : {M : Type 1} → statement M
 sound-group-spec =
     tie.close
     (tie.spec
-    label-at-requires
-    set-at-requires
-    is-free-requires
-    is-empty-requires
+    (λ c. search needs)
+    (λ c. search needs)
+    (λ c. search needs)
+    (λ c. search needs)
     returns
-    schema-in-requires
-    of-schema-requires
-    is-within-requires
+    (λ c. search needs)
+    (λ c. search needs)
+    (λ c. search needs)
     returns-2)

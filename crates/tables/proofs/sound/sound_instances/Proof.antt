@@ -7,8 +7,8 @@ use borrow.Author.Needs.{needs}
 use borrow.Author.Tests.{not-true, not-false}
 use Rattle.words.specs.declared.layout.Kind.the-variants.{Instance}
 use Rattle.words.specs.Layout.{countOf}
-use Rattle.words.specs.Search.{allB}
-use Rattle.words.specs.Laws.Search.{all-more, all-stop, all-done}
+use Rattle.logic.specs.Search.{allB}
+use Rattle.logic.specs.Laws.Search.{all-more, all-stop, all-done}
 use Rattle.tables.specs.Sound.{soundInstance}
 use Rattle.tables.proofs.sound.sound_instances.Statement.{statement}
 use Rattle.tables.proofs.sound.sound_instances.Tie as tie
@@ -19,9 +19,6 @@ Inv-loop t live n i₀ i = (i ≤ n) × (n ≡ countOf Instance) × (allB i (sou
 abbrev μ-loop : tie.MeasureT-loop
 μ-loop t live n i₀ i = n - i
 
-count-requires : tie.Need-count-requires Inv-loop μ-loop
-count-requires c κs = search needs
-
 loop-holds : tie.Need-loop-holds Inv-loop μ-loop
 unfolding allB
 loop-holds c = (omega arith, c .count .ensures, refl)
@@ -30,16 +27,16 @@ sound-instance-requires : tie.Need-sound-instance-requires Inv-loop μ-loop
 sound-instance-requires c κs = (c .before .before .before .before .pre .0, c .before .before .before .before .pre .1, omega arith)
 
 returns : tie.Need-returns Inv-loop μ-loop
-returns c = sym (all-stop (countOf Instance) (soundInstance (c .before .before .before .before .before .before .args .t .now)) (c .before .before .before .loop .i) (omega arith) (sym (c .before .sound-instance .ensures) ∙ not-true _ (c .if1 .taken)))
-
-add-i : tie.Need-add-i Inv-loop μ-loop
-add-i c = omega arith
-
-loop-less : tie.Need-loop-less Inv-loop μ-loop
-loop-less c = omega arith
+returns c =
+    let a = c .before .before .before .before .before .before .args in
+    sym (all-stop (countOf Instance) (soundInstance (a .t .now)) (c .before .before .before .loop .i) (omega arith)
+    (sym (c .before .sound-instance .ensures) ∙ not-true _ (c .if1 .taken)))
 
 loop-again : tie.Need-loop-again Inv-loop μ-loop
-loop-again c = (omega arith, c .before .before .before .loop .inv .1, all-more (soundInstance (c .before .before .before .before .before .before .args .t .now)) (c .before .before .before .loop .i) (c .before .before .before .loop .inv .2) (sym (c .before .sound-instance .ensures) ∙ not-false _ (c .if1 .left)))
+loop-again c =
+    let a = c .before .before .before .before .before .before .args in
+    let the-loop = c .before .before .before .loop in
+    (omega arith, the-loop .inv .1, all-more (soundInstance (a .t .now)) (the-loop .i) (the-loop .inv .2) (sym (c .before .sound-instance .ensures) ∙ not-false _ (c .if1 .left)))
 
 returns-2 : tie.Need-returns-2 Inv-loop μ-loop
 returns-2 c = sym (all-done (soundInstance (c .before .before .before .before .args .t .now)) (countOf Instance) (c .before .loop .i) (omega arith) (omega arith) (c .before .loop .inv .2))
@@ -50,11 +47,11 @@ sound-instances-spec =
     (tie.spec
     Inv-loop
     μ-loop
-    count-requires
+    (λ c. search needs)
     loop-holds
     sound-instance-requires
     returns
-    add-i
-    loop-less
+    (λ c. omega arith)
+    (λ c. omega arith)
     loop-again
     returns-2)

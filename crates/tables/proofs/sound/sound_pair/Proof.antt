@@ -1,15 +1,14 @@
 -- The first test that fails decides, and the last is of the kept table.
-use Rattle.tables.specs.Sound.{soundTable}
+use Rattle.tables.specs.Sound.{soundEntries, soundTable}
 use Rattle.words.specs.declared.layout.Kind.the-variants.{Model}
 use mathlib.Core.Bool.{true}
-use Rattle.tables.specs.Live.{liveIn}
-use Rattle.tables.specs.Labels.{soundEntries}
+use Rattle.tables.specs.Quick.Live.{liveIn}
 use mathlib.Core.Path.{_≡_, sym, _∙_}
 use Prim.Native.Nat.{_≤_}
 use lib.ListN.{length}
 use borrow.Author.Tests.{not-true, not-false, leb-true}
 use Rattle.words.specs.Layout.{words}
-use Rattle.words.specs.Laws.Bools.{and-ended}
+use Rattle.logic.specs.Laws.Bools.{and-ended}
 use Rattle.tables.specs.Laws.Labels.{sound-told, unsound-told, short-unsound, entries-unsound, instances-unsound, sound-by-instances}
 use borrow.Author.Needs.{needs}
 use Rattle.tables.proofs.sound.sound_pair.Statement.{statement}
@@ -18,56 +17,69 @@ use Rattle.tables.proofs.sound.sound_pair.Tie as tie
 long : (c : tie.Else1) → words ≤ length (c .before .before .before .before .args .working .now)
 long c = leb-true words (length (c .before .before .before .before .args .working .now)) (sym (c .before .is-long .ensures) ∙ not-false _ (c .if1 .left))
 
-entries : (c : tie.After-live) → (soundEntries (c .before .before .before .before .before .before .before .before .before .args .working .now) ≡ true) × (c .live .given .0 .0 ≡ liveIn (c .before .before .before .before .before .before .before .before .before .args .working .now) Model)
+entries : (c : tie.After-live)
+    → (let a = c .before .before .before .before .before .before .before .before .before .args in
+    (soundEntries (a .working .now) ≡ true) × (c .live .given .0 .0 ≡ liveIn (a .working .now) Model))
 entries c = sound-told _ _ _ (sym (c .live .given .1) ∙ c .before .before .test-entries .ensures)
-
-is-long-requires : tie.Need-is-long-requires
-is-long-requires c κs = search needs
 
 returns : tie.Need-returns
 returns c = rw (short-unsound (c .before .before .before .before .args .working .now) (sym (c .before .is-long .ensures) ∙ not-true _ (c .if1 .taken)))
 
-is-long-requires-2 : tie.Need-is-long-requires-2
-is-long-requires-2 c κs = search needs
-
 returns-2 : tie.Need-returns-2
-returns-2 c = sym (and-ended (soundTable (c .before .before .before .before .before .before .args .working .now)) (soundTable (c .before .before .before .before .before .before .args .kept .now)) (short-unsound (c .before .before .before .before .before .before .args .kept .now) (sym (c .before .is-long2 .ensures) ∙ not-true _ (c .if2 .taken))))
+returns-2 c =
+    let a = c .before .before .before .before .before .before .args in
+    sym (and-ended (soundTable (a .working .now)) (soundTable (a .kept .now)) (short-unsound (a .kept .now) (sym (c .before .is-long2 .ensures) ∙ not-true _ (c .if2 .taken))))
 
 test-entries-requires : tie.Need-test-entries-requires
 test-entries-requires c κs = long (c .before .before)
 
-enum-known-live : tie.Need-enum-known-live
-enum-known-live c = search needs
-
-enum-told : tie.Need-enum-told
-enum-told c = search needs
-
 returns-3 : tie.Need-returns-3
-returns-3 c = rw (entries-unsound (c .before .before .before .before .before .before .before .before .before .args .working .now) (unsound-told _ _ (sym (c .enum-told .given .1) ∙ c .before .before .test-entries .ensures)))
+returns-3 c =
+    let a = c .before .before .before .before .before .before .before .before .before .args in
+    rw (entries-unsound (a .working .now) (unsound-told _ _ (sym (c .enum-told .given .1) ∙ c .before .before .test-entries .ensures)))
 
 sound-instances-requires : tie.Need-sound-instances-requires
 sound-instances-requires c κs = (entries (c .before) .1, long (c .before .before .before .before .before .before))
 
 returns-4 : tie.Need-returns-4
-returns-4 c = rw (instances-unsound (c .before .before .before .before .before .before .before .before .before .before .before .before .args .working .now) (sym (c .before .sound-instances .ensures) ∙ not-true _ (c .if3 .taken)))
+returns-4 c =
+    let back = c .before .before .before .before .before .before in
+    let a = back .before .before .before .before .before .before .args in
+    rw (instances-unsound (a .working .now) (sym (c .before .sound-instances .ensures) ∙ not-true _ (c .if3 .taken)))
 
 sound-beside-requires : tie.Need-sound-beside-requires
-sound-beside-requires c κs = (long (c .before .before .before .before .before .before .before .before), leb-true words (length (c .before .before .before .before .before .before .before .before .before .before .before .before .args .kept .now)) (sym (c .before .before .before .before .before .before .before .is-long2 .ensures) ∙ not-false _ (c .before .before .before .before .before .before .if2 .left)), entries (c .before .before .before) .0, entries (c .before .before .before) .1)
+sound-beside-requires c κs =
+    let back = c .before .before .before .before .before .before in
+    let a = back .before .before .before .before .before .before .args in
+    let there = back .before .before in
+    let the-is-long2 = back .before .is-long2 in
+    let the-if2 = back .if2 in (
+      long (there),
+      leb-true words (length (a .kept .now)) (sym (the-is-long2 .ensures) ∙ not-false _ (the-if2 .left)),
+      entries (c .before .before .before) .0,
+      entries
+          (c .before .before .before) .1,
+    )
 
 returns-5 : tie.Need-returns-5
-returns-5 c = rw (sym (sound-by-instances (c .before .before .before .before .before .before .before .before .before .before .before .before .before .args .working .now) (long (c .before .before .before .before .before .before .before .before .before)) (entries (c .before .before .before .before) .0)) ∙ sym (c .before .before .sound-instances .ensures) ∙ not-false _ (c .before .if3 .left)) (c .sound-beside .ensures)
+returns-5 c =
+    let back = c .before .before .before .before .before .before in
+    let a = back .before .before .before .before .before .before .before .args in
+    let there = back .before .before .before in
+    rw (sym (sound-by-instances (a .working .now) (long (there)) (entries (c .before .before .before .before) .0)) ∙ sym (c .before .before .sound-instances .ensures) ∙
+    not-false _ (c .before .if3 .left)) (c .sound-beside .ensures)
 
 pub sound-pair-spec : {M : Type 1} → statement M
 sound-pair-spec =
     tie.close
     (tie.spec
-    is-long-requires
+    (λ c. search needs)
     returns
-    is-long-requires-2
+    (λ c. search needs)
     returns-2
     test-entries-requires
-    enum-known-live
-    enum-told
+    (λ c. search needs)
+    (λ c. search needs)
     returns-3
     sound-instances-requires
     returns-4

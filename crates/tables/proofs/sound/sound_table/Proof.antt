@@ -1,6 +1,6 @@
 -- A table is sound by its length, its entries and its instances: the first that fails decides.
-use Rattle.tables.specs.Live.{liveIn}
-use Rattle.tables.specs.Labels.{soundEntries}
+use Rattle.tables.specs.Sound.{soundEntries}
+use Rattle.tables.specs.Quick.Live.{liveIn}
 use mathlib.Core.Path.{_≡_, sym, _∙_}
 use mathlib.Core.Bool.{true}
 use Prim.Native.Nat.{_≤_}
@@ -16,23 +16,16 @@ use Rattle.tables.proofs.sound.sound_table.Tie as tie
 long : (c : tie.Else1) → words ≤ length (c .before .before .before .args .t .now)
 long c = leb-true words (length (c .before .before .before .args .t .now)) (sym (c .before .is-long .ensures) ∙ not-false _ (c .if1 .left))
 
-entries : (c : tie.After-live) → (soundEntries (c .before .before .before .before .before .before .args .t .now) ≡ true) × (c .live .given .0 .0 ≡ liveIn (c .before .before .before .before .before .before .args .t .now) Model)
+entries : (c : tie.After-live)
+    → (let a = c .before .before .before .before .before .before .args in
+    (soundEntries (a .t .now) ≡ true) × (c .live .given .0 .0 ≡ liveIn (a .t .now) Model))
 entries c = sound-told _ _ _ (sym (c .live .given .1) ∙ c .before .before .test-entries .ensures)
-
-is-long-requires : tie.Need-is-long-requires
-is-long-requires c κs = search needs
 
 returns : tie.Need-returns
 returns c = sym (short-unsound (c .before .before .before .args .t .now) (sym (c .before .is-long .ensures) ∙ not-true _ (c .if1 .taken)))
 
 test-entries-requires : tie.Need-test-entries-requires
 test-entries-requires c κs = long (c)
-
-enum-known-live : tie.Need-enum-known-live
-enum-known-live c = search needs
-
-enum-told : tie.Need-enum-told
-enum-told c = search needs
 
 returns-2 : tie.Need-returns-2
 returns-2 c = sym (entries-unsound (c .before .before .before .before .before .before .args .t .now) (unsound-told _ _ (sym (c .enum-told .given .1) ∙ c .before .before .test-entries .ensures)))
@@ -41,17 +34,19 @@ sound-instances-requires : tie.Need-sound-instances-requires
 sound-instances-requires c κs = (entries (c .before) .1, long (c .before .before .before .before))
 
 returns-3 : tie.Need-returns-3
-returns-3 c = c .sound-instances .ensures ∙ sound-by-instances (c .before .before .before .before .before .before .before .before .args .t .now) (long (c .before .before .before .before .before)) (entries (c .before .before) .0)
+returns-3 c =
+    let a = c .before .before .before .before .before .before .before .before .args in
+    c .sound-instances .ensures ∙ sound-by-instances (a .t .now) (long (c .before .before .before .before .before)) (entries (c .before .before) .0)
 
 pub sound-table-spec : {M : Type 1} → statement M
 sound-table-spec =
     tie.close
     (tie.spec
-    is-long-requires
+    (λ c. search needs)
     returns
     test-entries-requires
-    enum-known-live
-    enum-told
+    (λ c. search needs)
+    (λ c. search needs)
     returns-2
     sound-instances-requires
     returns-3)

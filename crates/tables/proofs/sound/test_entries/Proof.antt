@@ -4,9 +4,9 @@ use mathlib.Core.Bool.{true}
 use borrow.Author.Tests.{not-true, not-false}
 use Rattle.words.specs.declared.layout.Kind.the-variants.{Model, SchemaInstance}
 use Rattle.tables.specs.declared.labels.Tested.the-variants.{Sound}
-use Rattle.tables.specs.Live.{liveIn}
-use Rattle.tables.specs.Labels.{soundLabels}
-use Rattle.tables.specs.Laws.Labels.{sound-told, unsound-told}
+use Rattle.tables.specs.Quick.Live.{liveIn}
+use Rattle.tables.specs.Quick.Labels.{soundLabels}
+use Rattle.tables.specs.Laws.Labels.{sound-told, unsound-told, entries-by-labels}
 use borrow.Author.Needs.{needs}
 use Rattle.tables.proofs.sound.test_entries.Statement.{statement}
 use Rattle.tables.proofs.sound.test_entries.Tie as tie
@@ -17,50 +17,44 @@ models c = sound-told _ _ _ (sym (c .live .given .1) ∙ c .before .before .test
 groups : (c : tie.After-enum-told2) → soundLabels (c .before .before .before .before .before .before .before .before .args .t .now) SchemaInstance ≡ true
 groups c = sound-told _ _ _ (sym (c .enum-told2 .given .1) ∙ c .before .before .test-labels2 .ensures) .0
 
-test-labels-requires : tie.Need-test-labels-requires
-test-labels-requires c κs = search needs
-
-enum-known-live : tie.Need-enum-known-live
-enum-known-live c = search needs
-
-enum-told : tie.Need-enum-told
-enum-told c = search needs
-
 returns : tie.Need-returns
-returns c = rw (unsound-told (soundLabels (c .before .before .before .before .args .t .now) Model) (liveIn (c .before .before .before .before .args .t .now) Model) (sym (c .enum-told .given .1) ∙ c .before .before .test-labels .ensures))
-
-test-labels-requires-2 : tie.Need-test-labels-requires-2
-test-labels-requires-2 c κs = search needs
-
-enum-told-2 : tie.Need-enum-told-2
-enum-told-2 c = search needs
-
-enum-told-3 : tie.Need-enum-told-3
-enum-told-3 c = search needs
+returns c =
+    let a = c .before .before .before .before .args in
+    rw (entries-by-labels, unsound-told (soundLabels (a .t .now) Model) (liveIn (a .t .now) Model) (sym (c .enum-told .given .1) ∙ c .before .before .test-labels .ensures))
 
 returns-2 : tie.Need-returns-2
-returns-2 c = rw (models (c .before .before .before .before) .0, unsound-told (soundLabels (c .before .before .before .before .before .before .before .before .args .t .now) SchemaInstance) (liveIn (c .before .before .before .before .before .before .before .before .args .t .now) SchemaInstance) (sym (c .enum-told3 .given .1) ∙ c .before .before .test-labels2 .ensures))
+returns-2 c =
+    let a = c .before .before .before .before .before .before .before .before .args in
+    rw (
+      entries-by-labels,
+      models (c .before .before .before .before) .0,
+      unsound-told (soundLabels (a .t .now) SchemaInstance) (liveIn (a .t .now) SchemaInstance)
+          (sym (c .enum-told3 .given .1) ∙ c .before .before .test-labels2 .ensures),
+    )
 
 sound-groups-requires : tie.Need-sound-groups-requires
 sound-groups-requires c κs = (models (c .before .before .before .before) .1, groups (c))
 
 returns-3 : tie.Need-returns-3
-returns-3 c = rw (models (c .before .before .before .before .before .before) .0, groups (c .before .before), sym (c .before .sound-groups .ensures) ∙ not-true _ (c .if1 .taken))
+returns-3 c = rw (entries-by-labels, models (c .before .before .before .before .before .before) .0, groups (c .before .before), sym (c .before .sound-groups .ensures) ∙ not-true _ (c .if1 .taken))
 
 returns-4 : tie.Need-returns-4
-returns-4 c = rw (models (c .before .before .before .before .before .before) .0, groups (c .before .before), sym (c .before .sound-groups .ensures) ∙ not-false _ (c .if1 .left)) (ap Sound (models (c .before .before .before .before .before .before) .1))
+returns-4 c =
+    let there = c .before .before .before .before .before .before in
+    rw (entries-by-labels, models (there) .0, groups (c .before .before), sym (c .before .sound-groups .ensures) ∙ not-false _ (c .if1 .left))
+    (ap Sound (models (there) .1))
 
 pub test-entries-spec : {M : Type 1} → statement M
 test-entries-spec =
     tie.close
     (tie.spec
-    test-labels-requires
-    enum-known-live
-    enum-told
+    (λ c. search needs)
+    (λ c. search needs)
+    (λ c. search needs)
     returns
-    test-labels-requires-2
-    enum-told-2
-    enum-told-3
+    (λ c. search needs)
+    (λ c. search needs)
+    (λ c. search needs)
     returns-2
     sound-groups-requires
     returns-3

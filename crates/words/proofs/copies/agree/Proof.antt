@@ -6,7 +6,7 @@ use lib.ListN.{getD}
 use native.Mathlib.Omega.{arith}
 use native.Mathlib.Numerals.{add-one}
 use Rattle.words.specs.Layout.{words}
-use Rattle.words.specs.Search.{allB}
+use Rattle.logic.specs.Search.{allB}
 use Rattle.words.specs.Copies.{sameAt}
 use Rattle.words.specs.Laws.Copies.{no-difference, short-left, short-right, both-long}
 use Rattle.words.proofs.copies.agree.Statement.{statement}
@@ -28,30 +28,18 @@ loop-holds : tie.Need-loop-holds Inv-loop μ-loop
 unfolding allB
 loop-holds c = (omega arith, refl)
 
-mul-differing : tie.Need-mul-differing Inv-loop μ-loop
-mul-differing c = omega arith
-
-shared-slice-read-differing : tie.Need-shared-slice-read-differing Inv-loop μ-loop
-shared-slice-read-differing c = omega arith
-
-mul-differing-2 : tie.Need-mul-differing-2 Inv-loop μ-loop
-mul-differing-2 c = omega arith
-
-shared-slice-read-differing-2 : tie.Need-shared-slice-read-differing-2 Inv-loop μ-loop
-shared-slice-read-differing-2 c = omega arith
-
-add-i : tie.Need-add-i Inv-loop μ-loop
-add-i c = omega arith
-
-loop-less : tie.Need-loop-less Inv-loop μ-loop
-loop-less c = omega arith
-
 loop-again : tie.Need-loop-again Inv-loop μ-loop
 unfolding allB
-loop-again c = (omega arith, rw (add-one, no-difference (c .before .before .before .loop .differing) (getD (c .before .before .before .before .before .before .args .a .now) (c .before .before .before .loop .i) 0) (getD (c .before .before .before .before .before .before .args .b .now) (c .before .before .before .loop .i) 0), c .before .before .before .loop .inv .1))
+loop-again c =
+    let a = c .before .before .before .before .before .before .args in
+    let the-loop = c .before .before .before .loop in
+    (omega arith, rw (add-one, no-difference (the-loop .differing) (getD (a .a .now) (the-loop .i) 0) (getD (a .b .now) (the-loop .i) 0), the-loop .inv .1))
 
 returns-3 : tie.Need-returns-3 Inv-loop μ-loop
-returns-3 c = let e : c .before .loop .i ≡ words = omega arith in rw (c .before .loop .inv .1, e) (sym (both-long (c .before .before .before .before .args .a .now) (c .before .before .before .before .args .b .now) (c .before .before .before .if1 .left) (c .before .before .if2 .left)))
+returns-3 c =
+    let a = c .before .before .before .before .args in
+    let e : c .before .loop .i ≡ words = omega arith in rw (c .before .loop .inv .1, e)
+    (sym (both-long (a .a .now) (a .b .now) (c .before .before .before .if1 .left) (c .before .before .if2 .left)))
 
 pub agree-spec : {M : Type 1} → statement M
 agree-spec =
@@ -62,11 +50,11 @@ agree-spec =
     returns
     returns-2
     loop-holds
-    mul-differing
-    shared-slice-read-differing
-    mul-differing-2
-    shared-slice-read-differing-2
-    add-i
-    loop-less
+    (λ c. omega arith)
+    (λ c. omega arith)
+    (λ c. omega arith)
+    (λ c. omega arith)
+    (λ c. omega arith)
+    (λ c. omega arith)
     loop-again
     returns-3)

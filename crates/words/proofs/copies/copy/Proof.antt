@@ -17,41 +17,27 @@ Inv-loop from to₀ n i₀ to i = (i ≤ n) × (n ≡ inBoth from to₀) × (to 
 abbrev μ-loop : tie.MeasureT-loop
 μ-loop from to₀ n i₀ to i = n - i
 
-least-requires : tie.Need-least-requires Inv-loop μ-loop
-least-requires c κs = search needs
-
-least-requires-2 : tie.Need-least-requires-2 Inv-loop μ-loop
-least-requires-2 c κs = search needs
-
 loop-holds : tie.Need-loop-holds Inv-loop μ-loop
 loop-holds c = (omega arith, c .least2 .ensures ∙ ap (min words) (c .before .least .ensures), refl, refl)
 
-mul-to : tie.Need-mul-to Inv-loop μ-loop
-mul-to c = omega arith
-
-shared-slice-read-to : tie.Need-shared-slice-read-to Inv-loop μ-loop
-shared-slice-read-to c = omega arith
-
-mul-to-2 : tie.Need-mul-to-2 Inv-loop μ-loop
-mul-to-2 c = omega arith
-
-slice-write-to : tie.Need-slice-write-to Inv-loop μ-loop
-slice-write-to c = omega arith
-
-add-i : tie.Need-add-i Inv-loop μ-loop
-add-i c = omega arith
-
-loop-less : tie.Need-loop-less Inv-loop μ-loop
-loop-less c = omega arith
-
 loop-again : tie.Need-loop-again Inv-loop μ-loop
-loop-again c = (omega arith, c .before .before .loop .inv .1, ap (λ (l : List ℕ). set l (c .before .before .loop .i) (getD (c .before .before .before .before .before .before .before .args .from .now) (c .before .before .loop .i) 0)) (c .before .before .loop .inv .2) ∙ copy-more (c .before .before .before .before .before .before .before .args .from .now) (c .before .before .before .before .before .before .before .args .to .now) (c .before .before .loop .i) (omega arith) (omega arith), length-set (c .before .before .loop .to) (c .before .before .loop .i) _ ∙ c .before .before .loop .inv .3)
+loop-again c =
+    let a = c .before .before .before .before .before .before .before .args in (
+      omega arith,
+      c .before .before .loop .inv .1,
+      ap (λ (l : List ℕ). set l (c .before .before .loop .i) (getD (a .from .now) (c .before .before .loop .i) 0))
+          (c .before .before .loop .inv .2) ∙ copy-more (a .from .now) (a .to .now) (c .before .before .loop .i) (omega arith) (omega arith),
+      length-set (c .before .before .loop .to)
+          (c .before .before .loop .i) _ ∙ c .before .before .loop .inv .3,
+    )
 
 same-length : tie.Need-same-length Inv-loop μ-loop
 same-length c = c .before .loop .inv .3
 
 returns : tie.Need-returns Inv-loop μ-loop
-returns c = let e : c .before .loop .i ≡ inBoth (c .before .before .before .before .before .before .args .from .now) (c .before .before .before .before .before .before .args .to .now) = omega arith in c .before .loop .inv .2 ∙ ap (λ (m : ℕ). take m (c .before .before .before .before .before .before .args .from .now) ++ drop m (c .before .before .before .before .before .before .args .to .now)) e
+returns c =
+    let a = c .before .before .before .before .before .before .args in
+    let e : c .before .loop .i ≡ inBoth (a .from .now) (a .to .now) = omega arith in c .before .loop .inv .2 ∙ ap (λ (m : ℕ). take m (a .from .now) ++ drop m (a .to .now)) e
 
 pub copy-spec : {M : Type 1} → statement M
 copy-spec =
@@ -59,15 +45,15 @@ copy-spec =
     (tie.spec
     Inv-loop
     μ-loop
-    least-requires
-    least-requires-2
+    (λ c. search needs)
+    (λ c. search needs)
     loop-holds
-    mul-to
-    shared-slice-read-to
-    mul-to-2
-    slice-write-to
-    add-i
-    loop-less
+    (λ c. omega arith)
+    (λ c. omega arith)
+    (λ c. omega arith)
+    (λ c. omega arith)
+    (λ c. omega arith)
+    (λ c. omega arith)
     loop-again
     same-length
     returns)

@@ -6,17 +6,10 @@ use borrow.Author.Needs.{needs}
 use Rattle.words.proofs.entries.read.Statement.{statement}
 use Rattle.words.proofs.entries.read.Tie as tie
 
-in-entry-requires : tie.Need-in-entry-requires
-in-entry-requires c κs = search needs
-
-place-requires : tie.Need-place-requires
-place-requires c κs = search needs
-
 add-get : tie.Need-add-get
-add-get c = omega (arith, c .place .ensures, entry-in-use (c .before .before .before .before .args .kind) (c .before .before .before .before .args .i) (c .before .before .before .before .args .k) (sym (c .before .before .in-entry .ensures) ∙ c .before .if1 .taken))
-
-get-requires : tie.Need-get-requires
-get-requires c κs = search needs
+add-get c =
+    let a = c .before .before .before .before .args in
+    omega (arith, c .place .ensures, entry-in-use (a .kind) (a .i) (a .k) (sym (c .before .before .in-entry .ensures) ∙ c .before .if1 .taken))
 
 returns : tie.Need-returns
 returns c = rw (sym (c .before .before .before .in-entry .ensures) ∙ c .before .before .if1 .taken, ← c .before .place .ensures) (c .get .ensures)
@@ -26,4 +19,4 @@ returns-2 c = rw (sym (c .before .in-entry .ensures) ∙ c .if1 .left)
 
 pub read-spec : {M : Type 1} → statement M
 read-spec =
-    tie.close (tie.spec in-entry-requires place-requires add-get get-requires returns returns-2)
+    tie.close (tie.spec (λ c. search needs) (λ c. search needs) add-get (λ c. search needs) returns returns-2)

@@ -4,12 +4,6 @@ use borrow.Author.Needs.{needs}
 use Rattle.words.proofs.fields.is_flagged.Statement.{statement}
 use Rattle.words.proofs.fields.is_flagged.Tie as tie
 
-add-has : tie.Need-add-has
-add-has c = search needs
-
-has-requires : tie.Need-has-requires
-has-requires c κs = search needs
-
 returns : tie.Need-returns
 returns c = rw (lt-ltb (c .before .before .args .k) 4 (c .before .if1 .taken)) (c .has .ensures)
 
@@ -17,4 +11,4 @@ returns-2 : tie.Need-returns-2
 returns-2 c = rw (le-ltb (c .before .args .k) 4 (c .if1 .left))
 
 pub is-flagged-spec : {M : Type 1} → statement M
-is-flagged-spec = tie.close (tie.spec add-has has-requires returns returns-2)
+is-flagged-spec = tie.close (tie.spec (λ c. search needs) (λ c. search needs) returns returns-2)

@@ -3,14 +3,8 @@ use borrow.Author.Needs.{needs}
 use Rattle.words.proofs.fields.is_named.Statement.{statement}
 use Rattle.words.proofs.fields.is_named.Tie as tie
 
-repository-in-requires : tie.Need-repository-in-requires
-repository-in-requires c κs = search needs
-
-name-in-requires : tie.Need-name-in-requires
-name-in-requires c κs = search needs
-
 returns : tie.Need-returns
 returns c = rw (c .before .repository-in .ensures, c .name-in .ensures)
 
 pub is-named-spec : {M : Type 1} → statement M
-is-named-spec = tie.close (tie.spec repository-in-requires name-in-requires returns)
+is-named-spec = tie.close (tie.spec (λ c. search needs) (λ c. search needs) returns)

@@ -4,12 +4,6 @@ use borrow.Author.Needs.{needs}
 use Rattle.words.proofs.fields.with_flag.Statement.{statement}
 use Rattle.words.proofs.fields.with_flag.Tie as tie
 
-add-with : tie.Need-add-with
-add-with c = search needs
-
-with-requires : tie.Need-with-requires
-with-requires c κs = search needs
-
 returns : tie.Need-returns
 returns c = rw (lt-ltb (c .before .before .args .k) 4 (c .before .if1 .taken)) (c .with .ensures)
 
@@ -17,4 +11,4 @@ returns-2 : tie.Need-returns-2
 returns-2 c = rw (le-ltb (c .before .args .k) 4 (c .if1 .left))
 
 pub with-flag-spec : {M : Type 1} → statement M
-with-flag-spec = tie.close (tie.spec add-with with-requires returns returns-2)
+with-flag-spec = tie.close (tie.spec (λ c. search needs) (λ c. search needs) returns returns-2)

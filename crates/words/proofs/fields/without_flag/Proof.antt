@@ -4,12 +4,6 @@ use borrow.Author.Needs.{needs}
 use Rattle.words.proofs.fields.without_flag.Statement.{statement}
 use Rattle.words.proofs.fields.without_flag.Tie as tie
 
-add-without : tie.Need-add-without
-add-without c = search needs
-
-without-requires : tie.Need-without-requires
-without-requires c κs = search needs
-
 returns : tie.Need-returns
 returns c = rw (lt-ltb (c .before .before .args .k) 4 (c .before .if1 .taken)) (c .without .ensures)
 
@@ -17,4 +11,4 @@ returns-2 : tie.Need-returns-2
 returns-2 c = rw (le-ltb (c .before .args .k) 4 (c .if1 .left))
 
 pub without-flag-spec : {M : Type 1} → statement M
-without-flag-spec = tie.close (tie.spec add-without without-requires returns returns-2)
+without-flag-spec = tie.close (tie.spec (λ c. search needs) (λ c. search needs) returns returns-2)

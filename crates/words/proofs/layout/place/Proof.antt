@@ -5,20 +5,16 @@ use borrow.Author.Needs.{needs}
 use Rattle.words.proofs.layout.place.Statement.{statement}
 use Rattle.words.proofs.layout.place.Tie as tie
 
-base-requires : tie.Need-base-requires
-base-requires c κs = search needs
-
-stride-requires : tie.Need-stride-requires
-stride-requires c κs = search needs
-
 mul-result : tie.Need-mul-result
 mul-result c = rw (c .stride .ensures) (omega (arith, stride-small (c .before .before .args .kind) (c .before .before .args .i) (omega arith)))
 
 add-result : tie.Need-add-result
-add-result c = rw (c .before .base .ensures, c .stride .ensures) (omega (arith, base-small (c .before .before .args .kind), stride-small (c .before .before .args .kind) (c .before .before .args .i) (omega arith)))
+add-result c =
+    let a = c .before .before .args in
+    rw (c .before .base .ensures, c .stride .ensures) (omega (arith, base-small (a .kind), stride-small (a .kind) (a .i) (omega arith)))
 
 returns : tie.Need-returns
 returns c = rw (c .before .base .ensures, c .stride .ensures)
 
 pub place-spec : {M : Type 1} → statement M
-place-spec = tie.close (tie.spec base-requires stride-requires mul-result add-result returns)
+place-spec = tie.close (tie.spec (λ c. search needs) (λ c. search needs) mul-result add-result returns)

@@ -5,10 +5,10 @@ use Prim.Native.Nat.{_-_}
 use native.Mathlib.Omega.{arith}
 use borrow.Author.Needs.{needs}
 use Rattle.words.specs.Layout.{countOf}
-use Rattle.words.specs.Search.{firstFrom}
+use Rattle.logic.specs.Search.{firstFrom}
 use Rattle.words.specs.Entries.{firstFree, freeAt}
 use Rattle.words.specs.Laws.Layout.{count-at-most}
-use Rattle.words.specs.Laws.Search.{first-none, first-hit, first-miss}
+use Rattle.logic.specs.Laws.Search.{first-none, first-hit, first-miss}
 use Rattle.words.proofs.search.first_free.Statement.{statement}
 use Rattle.words.proofs.search.first_free.Tie as tie
 
@@ -18,32 +18,34 @@ Inv-loop t kind from n i₀ i = (n ≡ countOf kind) × (firstFree t kind from �
 abbrev μ-loop : tie.MeasureT-loop
 μ-loop t kind from n i₀ i = n - i
 
-count-requires : tie.Need-count-requires Inv-loop μ-loop
-count-requires c κs = search needs
-
 loop-holds : tie.Need-loop-holds Inv-loop μ-loop
 loop-holds c = (c .count .ensures, rw (c .count .ensures))
 
-read-requires : tie.Need-read-requires Inv-loop μ-loop
-read-requires c κs = search needs
-
-is-free-requires : tie.Need-is-free-requires Inv-loop μ-loop
-is-free-requires c κs = search needs
-
 returns : tie.Need-returns Inv-loop μ-loop
-returns c = sym (c .before .before .before .before .loop .inv .1 ∙ first-hit (freeAt (c .before .before .before .before .before .before .before .args .t .now) (c .before .before .before .before .before .before .before .args .kind)) (c .before .before .before .before .before .count .result) (c .before .before .before .before .loop .i) (c .before .before .before .loop-test .taken) (ap isFree (sym (c .before .before .read .ensures)) ∙ sym (c .before .is-free .ensures) ∙ c .if1 .taken))
+returns c =
+    let a = c .before .before .before .before .before .before .before .args in
+    let the-count = c .before .before .before .before .before .count in
+    let the-loop = c .before .before .before .before .loop in
+    sym (the-loop .inv .1 ∙ first-hit (freeAt (a .t .now) (a .kind)) (the-count .result) (the-loop .i) (c .before .before .before .loop-test .taken)
+    (ap isFree (sym (c .before .before .read .ensures)) ∙ sym (c .before .is-free .ensures) ∙ c .if1 .taken))
 
 add-i : tie.Need-add-i Inv-loop μ-loop
 add-i c = omega (arith, count-at-most (c .before .before .before .before .before .before .before .args .kind))
 
-loop-less : tie.Need-loop-less Inv-loop μ-loop
-loop-less c = omega arith
-
 loop-again : tie.Need-loop-again Inv-loop μ-loop
-loop-again c = (c .before .before .before .before .loop .inv .0, c .before .before .before .before .loop .inv .1 ∙ first-miss (freeAt (c .before .before .before .before .before .before .before .args .t .now) (c .before .before .before .before .before .before .before .args .kind)) (c .before .before .before .before .before .count .result) (c .before .before .before .before .loop .i) (c .before .before .before .loop-test .taken) (ap isFree (sym (c .before .before .read .ensures)) ∙ sym (c .before .is-free .ensures) ∙ c .if1 .left))
+loop-again c =
+    let a = c .before .before .before .before .before .before .before .args in
+    let the-count = c .before .before .before .before .before .count in
+    let the-loop = c .before .before .before .before .loop in (
+      the-loop .inv .0,
+      the-loop .inv .1 ∙ first-miss (freeAt (a .t .now) (a .kind)) (the-count .result) (the-loop .i) (c .before .before .before .loop-test .taken)
+          (ap isFree (sym (c .before .before .read .ensures)) ∙ sym (c .before .is-free .ensures) ∙ c .if1 .left),
+    )
 
 returns-2 : tie.Need-returns-2 Inv-loop μ-loop
-returns-2 c = sym (c .before .loop .inv .1 ∙ first-none (freeAt (c .before .before .before .before .args .t .now) (c .before .before .before .before .args .kind)) (c .before .before .count .result) (c .before .loop .i) (c .loop-test .left))
+returns-2 c =
+    let a = c .before .before .before .before .args in
+    sym (c .before .loop .inv .1 ∙ first-none (freeAt (a .t .now) (a .kind)) (c .before .before .count .result) (c .before .loop .i) (c .loop-test .left))
 
 pub first-free-spec : {M : Type 1} → statement M
 first-free-spec =
@@ -51,12 +53,12 @@ first-free-spec =
     (tie.spec
     Inv-loop
     μ-loop
-    count-requires
+    (λ c. search needs)
     loop-holds
-    read-requires
-    is-free-requires
+    (λ c. search needs)
+    (λ c. search needs)
     returns
     add-i
-    loop-less
+    (λ c. omega arith)
     loop-again
     returns-2)

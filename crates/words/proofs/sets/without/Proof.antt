@@ -7,9 +7,6 @@ use borrow.Author.Needs.{needs}
 use Rattle.words.proofs.sets.without.Statement.{statement}
 use Rattle.words.proofs.sets.without.Tie as tie
 
-shl-result : tie.Need-shl-result
-shl-result c = search needs
-
 sub-result : tie.Need-sub-result
 sub-result c = and-le-l (c .before .args .set) _
 
@@ -20,4 +17,4 @@ returns-2 : tie.Need-returns-2
 returns-2 c = sym (remove-past (c .before .args .set) (c .before .args .m) (c .before .fits .set .fits) (c .if1 .left))
 
 pub without-spec : {M : Type 1} → statement M
-without-spec = tie.close (tie.spec shl-result sub-result returns returns-2)
+without-spec = tie.close (tie.spec (λ c. search needs) sub-result returns returns-2)

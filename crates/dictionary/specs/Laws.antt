@@ -1,0 +1,6 @@
+-- What callers cite of the definitions.
+pub mod Types
+pub mod Attributes
+pub mod Subtypes
+pub mod References
+pub mod Shapes

@@ -1,0 +1,3 @@
+-- What only the quick code asks for. No promise is about these.
+pub mod References
+pub mod Shapes

@@ -1,0 +1,4 @@
+-- What callers cite.
+pub mod Bools
+pub mod Search
+pub mod Decides

@@ -1,0 +1,21 @@
+-- The row's checks and effect, each part by its function's contract.
+use Rattle.session.specs.Checks.{firstOf}
+use borrow.Author.Needs.{needs}
+use Rattle.session.proofs.in_session.end_abort.Statement.{statement}
+use Rattle.session.proofs.in_session.end_abort.Tie as tie
+
+returns : tie.Need-returns
+unfolding firstOf
+returns c = cc
+
+pub end-abort-spec : {M : Type 1} → statement M
+end-abort-spec =
+    tie.close
+    (tie.spec
+    (λ c. search needs)
+    (λ c. search needs)
+    (λ c. search needs)
+    (λ c. search needs)
+    (λ c. search needs)
+    (λ c. search needs)
+    returns)

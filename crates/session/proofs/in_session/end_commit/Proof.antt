@@ -1,0 +1,23 @@
+-- The row's checks and effect, each part by its function's contract.
+use Rattle.session.specs.Checks.{firstOf}
+use borrow.Author.Needs.{needs}
+use Rattle.session.proofs.in_session.end_commit.Statement.{statement}
+use Rattle.session.proofs.in_session.end_commit.Tie as tie
+
+returns : tie.Need-returns
+unfolding firstOf
+returns c = cc
+
+pub end-commit-spec : {M : Type 1} → statement M
+end-commit-spec =
+    tie.close
+    (tie.spec
+    (λ c. search needs)
+    (λ c. search needs)
+    (λ c. search needs)
+    (λ c. search needs)
+    (λ c. search needs)
+    (λ c. search needs)
+    (λ c. search needs)
+    (λ c. search needs)
+    returns)

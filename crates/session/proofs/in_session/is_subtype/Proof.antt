@@ -1,0 +1,25 @@
+-- The row's checks and effect, each part by its function's contract.
+use Rattle.session.specs.Checks.{firstOf}
+use borrow.Author.Needs.{needs}
+use Rattle.session.proofs.in_session.is_subtype.Statement.{statement}
+use Rattle.session.proofs.in_session.is_subtype.Tie as tie
+
+returns : tie.Need-returns
+unfolding firstOf
+returns c = cc
+
+pub is-subtype-spec : {M : Type 1} → statement M
+is-subtype-spec =
+    tie.close
+    (tie.spec
+    (λ c. search needs)
+    (λ c. search needs)
+    (λ c. search needs)
+    (λ c. search needs)
+    (λ c. search needs)
+    (λ c. search needs)
+    (λ c. search needs)
+    (λ c. search needs)
+    (λ c. search needs)
+    (λ c. search needs)
+    returns)

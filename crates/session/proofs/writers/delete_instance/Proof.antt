@@ -1,0 +1,22 @@
+-- The row's checks and effect, each part by its function's contract.
+use Rattle.session.specs.Checks.{firstOf}
+use borrow.Author.Needs.{needs}
+use Rattle.session.proofs.writers.delete_instance.Statement.{statement}
+use Rattle.session.proofs.writers.delete_instance.Tie as tie
+
+returns : tie.Need-returns
+unfolding firstOf
+returns c = cc
+
+pub delete-instance-spec : {M : Type 1} → statement M
+delete-instance-spec =
+    tie.close
+    (tie.spec
+    (λ c. search needs)
+    (λ c. search needs)
+    (λ c. search needs)
+    (λ c. search needs)
+    (λ c. search needs)
+    (λ c. search needs)
+    (λ c. search needs)
+    returns)

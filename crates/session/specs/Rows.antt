@@ -1,0 +1,178 @@
+-- "Operations and the order of their checks": for each operation its refusals in the page's order, each with its condition,
+-- and the effect when none of them is given.
+use Prim.Native.Nat.{ℕ}
+use mathlib.Core.Bool.{not}
+use mathlib.Core.List.{List, [], _∷_, _++_}
+use Rattle.words.specs.declared.layout.Kind.{Kind}
+use Rattle.words.specs.declared.layout.Kind.the-variants.{Model, SchemaInstance, Instance}
+use Rattle.words.specs.Sets.{none, has, insert, remove, sizeOf}
+use Rattle.words.specs.Fields.{isSchema, labelOf, headerOf, modelIn, valueIn}
+use Rattle.words.specs.Entries.{isTaken}
+use Rattle.dictionary.specs.declared.answers.Attribute.{Attribute}
+use Rattle.dictionary.specs.declared.answers.Attribute.the-variants.{Lacking, Whole, Reference}
+use Rattle.dictionary.specs.Dictionary.{isType, attributeOf}
+use Rattle.dictionary.specs.Subtype.{subtype}
+use Rattle.tables.specs.View.{labelAt, setAt, headerAt, typeAt, modelAt, isSet, valueAt}
+use Rattle.tables.specs.Deletions.{heldBack}
+use Rattle.tables.specs.declared.changes.Change.the-variants.{Gone, Joined, Left, Put, Unset}
+use Rattle.session.specs.declared.operations.Operation.{Operation}
+use Rattle.session.specs.declared.operations.Operation.the-variants as operation
+use Rattle.session.specs.declared.operations.InSession.{InSession}
+use Rattle.session.specs.declared.operations.InSession.the-variants as inSession
+use Rattle.session.specs.declared.operations.Reader.{Reader}
+use Rattle.session.specs.declared.operations.Reader.the-variants as reader
+use Rattle.session.specs.declared.operations.Writer.{Writer}
+use Rattle.session.specs.declared.operations.Writer.the-variants as writer
+use Rattle.session.specs.declared.state.State.{State}
+use Rattle.session.specs.declared.effects.Tables.the-variants.{Stay, Commit, Drop, Changed}
+use Rattle.session.specs.declared.effects.Effect.{Effect}
+use Rattle.session.specs.Refusals.{TR-EAB, TR-EXS, TR-NEXS, TR-NAVL, TR-NRW, RP-NEXS, RP-OPN, RP-NOPN, MO-NEXS, MO-DUP, MO-NDEQ, MO-NVLD, MX-RO, MX-RW, MX-NDEF, MX-NRW, SD-NDEF, SI-NEXS, SI-DUP, ED-NDEF, ED-NDEQ, ED-NVLD, EI-NEXS, AT-NDEF, VA-NSET, VA-NVLD, VT-NVLD}
+use Rattle.session.specs.States.{NONE, RO, RW, ABORTED, under, withRecording, withTransaction, withRepositories, withAccess, ended, closedState, openedState}
+use Rattle.session.specs.Checks.{Check, _gives_, firstOf, noRepository, notOpened, away, missing, noWriting, noAccess, lacksAttribute, schemasDiffer, typeForeign, typesDiffer, wrongType, apart, gate}
+use Rattle.session.specs.Effects.{does, unlessRefused, ifWriting, number, created}
+
+-- "refusals" and "effect when done" of an operation
+pub record Row : Type 0 where
+  pub checks : List Check
+  pub effect : Effect
+
+infix 60 _then_
+abbrev pub _then_ : List Check → Effect → Row
+checks then effect = record { checks = checks; effect = effect }
+
+-- the entry with this first word is there, or this refusal is given, and its repository is open; and then the rest
+abbrev pub inReach : ℕ → ℕ → State → List Check → List Check
+inReach label refusal s rest = missing label gives refusal ∷ away s label gives RP-NOPN ∷ rest
+
+-- the entry with this first word is there, or this refusal is given, and model m has read-write access; and then the rest
+abbrev pub writable : ℕ → ℕ → ℕ → State → List Check → List Check
+writable first refusal m s rest = missing first gives refusal ∷ noWriting s m gives MX-NRW ∷ rest
+
+-- ---- those that ask for an open session
+
+-- 4, 5 and 6: no transaction is open, and then the rest
+abbrev pub untransacted : State → List Check → List Check
+untransacted s rest = under s ABORTED gives TR-EAB ∷ not (under s NONE) gives TR-EXS ∷ rest
+
+-- 7 and 8
+abbrev pub settling : State → List Check
+settling s = under s ABORTED gives TR-EAB ∷ under s NONE gives TR-NEXS ∷ under s RO gives TR-NRW ∷ []
+
+abbrev pub sessionRow : InSession → ℕ → ℕ → State → Row
+sessionRow inSession.CloseSession a b s = [] then does 0 closedState (ifWriting s Drop)
+sessionRow inSession.OpenRepository a b s =
+    noRepository a gives RP-NEXS ∷ has (s .repositories) a gives RP-OPN ∷ []
+    then does 0 (withRepositories s (insert (s .repositories) a)) Stay
+sessionRow inSession.CloseRepository a b s =
+    untransacted s (noRepository a gives RP-NEXS ∷ notOpened s a gives RP-NOPN ∷ [])
+    then does 0 (withRepositories s (remove (s .repositories) a)) Stay
+sessionRow inSession.StartReadWrite a b s = untransacted s [] then does 0 (withTransaction s RW) Stay
+sessionRow inSession.StartReadOnly a b s = untransacted s [] then does 0 (withTransaction s RO) Stay
+sessionRow inSession.Commit a b s = settling s then does 0 s Commit
+sessionRow inSession.Abort a b s = settling s then does 0 (withAccess s none none) Drop
+sessionRow inSession.EndCommit a b s =
+    under s ABORTED gives TR-EAB ∷ under s NONE gives TR-NEXS ∷ [] then does 0 (ended s NONE) (ifWriting s Commit)
+sessionRow inSession.EndAbort a b s = under s NONE gives TR-NEXS ∷ [] then does 0 (ended s NONE) (ifWriting s Drop)
+sessionRow inSession.StartRecording a b s = [] then does 1 (withRecording s 1) Stay
+sessionRow inSession.StopRecording a b s = [] then does (s .recording) (withRecording s 0) Stay
+sessionRow inSession.StorageFault a b s =
+    under s ABORTED gives TR-EAB ∷ under s NONE gives TR-NAVL ∷ [] then does 0 (ended s ABORTED) (ifWriting s Drop)
+sessionRow inSession.IsSubtype a b s =
+    not (isType a) gives ED-NDEF ∷ not (isType b) gives ED-NDEF ∷ typesDiffer a b gives ED-NDEQ ∷ []
+    then does (number (subtype a b)) s Stay
+
+-- ---- those that ask for a transaction
+
+-- 42 and 43, "EI_NEXS RP_NOPN MX_NDEF AT_NDEF", and then the rest
+abbrev pub reading : ℕ → ℕ → State → List ℕ → List Check → List Check
+reading header k s w rest =
+    missing header gives EI-NEXS
+    ∷ away s (labelAt w Model (modelIn header)) gives RP-NOPN
+    ∷ noAccess s (modelIn header) gives MX-NDEF
+    ∷ lacksAttribute header k gives AT-NDEF
+    ∷ rest
+
+abbrev pub readerRow : Reader → ℕ → ℕ → State → List ℕ → Row
+readerRow reader.ReadOnlyAccess a b s w =
+    inReach (labelAt w Model a) MO-NEXS s (has (s .ro) a gives MX-RO ∷ has (s .rw) a gives MX-RW ∷ [])
+    then does 0 (withAccess s (insert (s .ro) a) (s .rw)) Stay
+readerRow reader.EndAccess a b s w =
+    missing (labelAt w Model a) gives MO-NEXS ∷ noAccess s a gives MX-NDEF ∷ []
+    then does 0 (withAccess s (remove (s .ro) a) (remove (s .rw) a)) Stay
+readerRow reader.Get a b s w = reading (headerAt w a) b s w (not (isSet w a b) gives VA-NSET ∷ []) then does (valueIn (valueAt w a b)) s Stay
+readerRow reader.Test a b s w = reading (headerAt w a) b s w [] then does (number (isSet w a b)) s Stay
+
+-- ---- those that ask for a transaction that writes
+
+-- 20 and 30, "RP_NEXS RP_NOPN SD_NDEF" and the taken name
+abbrev pub creating : Kind → ℕ → ℕ → ℕ → ℕ → State → List ℕ → List Check
+creating kind taken repository schema name s w =
+    noRepository repository gives RP-NEXS
+    ∷ notOpened s repository gives RP-NOPN
+    ∷ not (isSchema schema) gives SD-NDEF
+    ∷ isTaken w kind repository name gives taken
+    ∷ []
+
+-- 44 and 45, "EI_NEXS MX_NRW AT_NDEF", and then the rest
+abbrev pub writing : ℕ → ℕ → State → List Check → List Check
+writing header k s rest = writable header EI-NEXS (modelIn header) s (lacksAttribute header k gives AT-NDEF ∷ rest)
+
+-- 44, "R only: VA_NVLD VT_NVLD MO_NVLD": value v in an instance of model m
+abbrev pub referring : Attribute → ℕ → ℕ → List ℕ → List Check
+referring Lacking m v w = []
+referring Whole m v w = []
+referring (Reference target) m v w =
+    missing (headerAt w v) gives VA-NVLD ∷ wrongType (headerAt w v) target gives VT-NVLD ∷ apart w m (modelAt w v) gives MO-NVLD ∷ []
+
+-- MX_NRW is first about the named entry's own model, and then about those that refer to what would go
+abbrev pub writerRow : Writer → ℕ → ℕ → ℕ → State → List ℕ → Row
+writerRow writer.CreateModel a b c s w = creating Model MO-DUP a b c s w then created Model (labelOf a b c) s w
+writerRow writer.DeleteModel a b c s w =
+    writable (labelAt w Model a) MO-NEXS a s (heldBack w Model a (s .rw) gives MX-NRW ∷ [])
+    then does 0 (withAccess s (remove (s .ro) a) (remove (s .rw) a)) (Changed (Gone Model a))
+writerRow writer.ReadWriteAccess a b c s w =
+    inReach (labelAt w Model a) MO-NEXS s (has (s .rw) a gives MX-RW ∷ has (s .ro) a gives MX-RO ∷ [])
+    then does 0 (withAccess s (s .ro) (insert (s .rw) a)) Stay
+writerRow writer.CreateSchemaInstance a b c s w = creating SchemaInstance SI-DUP a b c s w then created SchemaInstance (labelOf a b c) s w
+writerRow writer.DeleteSchemaInstance a b c s w = inReach (labelAt w SchemaInstance a) SI-NEXS s [] then does 0 s (Changed (Gone SchemaInstance a))
+writerRow writer.AddModel a b c s w =
+    inReach (labelAt w SchemaInstance a) SI-NEXS s
+    (inReach (labelAt w Model b) MO-NEXS s (schemasDiffer (labelAt w Model b) (labelAt w SchemaInstance a) gives MO-NDEQ ∷ []))
+    then does (sizeOf (insert (setAt w a) b)) s (Changed (Joined a b))
+writerRow writer.RemoveModel a b c s w =
+    inReach (labelAt w SchemaInstance a) SI-NEXS s (missing (labelAt w Model b) gives MO-NEXS ∷ not (has (setAt w a) b) gives MO-NVLD ∷ [])
+    then does (sizeOf (remove (setAt w a) b)) s (Changed (Left a b))
+writerRow writer.CreateInstance a b c s w =
+    writable (labelAt w Model a) MO-NEXS a s (not (isType b) gives ED-NDEF ∷ typeForeign b (labelAt w Model a) gives ED-NVLD ∷ [])
+    then created Instance (headerOf b a 0) s w
+writerRow writer.DeleteInstance a b c s w =
+    writable (headerAt w a) EI-NEXS (modelAt w a) s (heldBack w Instance a (s .rw) gives MX-NRW ∷ []) then does 0 s (Changed (Gone Instance a))
+writerRow writer.Put a b c s w = writing (headerAt w a) b s (referring (attributeOf (typeAt w a) b) (modelAt w a) c w) then does 0 s (Changed (Put a b c))
+writerRow writer.Unset a b c s w = writing (headerAt w a) b s [] then does 0 s (Changed (Unset a b))
+
+-- ---- every operation
+
+-- for a number that is not listed the gate has the refusal
+abbrev pub rowOf : Operation → ℕ → ℕ → ℕ → State → List ℕ → Row
+rowOf operation.Unlisted a b c s w = [] then does 0 s Stay
+rowOf operation.Opening a b c s w = [] then does 0 openedState Stay
+rowOf (operation.InSession o) a b c s w = sessionRow o a b s
+rowOf (operation.Reader o) a b c s w = readerRow o a b s w
+rowOf (operation.Writer o) a b c s w = writerRow o a b c s w
+
+abbrev pub checks : Operation → ℕ → ℕ → ℕ → State → List ℕ → List Check
+checks o a b c s w = rowOf o a b c s w .checks
+
+abbrev pub effect : Operation → ℕ → ℕ → ℕ → State → List ℕ → Effect
+effect o a b c s w = rowOf o a b c s w .effect
+
+-- the refusal of a call on a sound state, but for NO_ROOM; done if there is none
+unfoldable pub refusalOf : Operation → ℕ → ℕ → ℕ → State → List ℕ → ℕ
+refusalOf o a b c s w = firstOf (gate o s ++ checks o a b c s w)
+
+-- what a row does by itself, and what a call does on a sound state: a refusal is the effect that does nothing
+abbrev pub rowDone : State → Row → Effect
+rowDone s row = unlessRefused (firstOf (row .checks)) s (row .effect)
+
+abbrev pub performed : Operation → ℕ → ℕ → ℕ → State → List ℕ → Effect
+performed o a b c s w = unlessRefused (refusalOf o a b c s w) s (effect o a b c s w)

@@ -1,0 +1,122 @@
+// The operations that ask for a transaction.
+ghost use mathlib.Core.Path.{_≡_};
+ghost use Rattle.session.specs.Checks.{firstOf, known};
+ghost use Rattle.session.specs.Rows.{rowDone, reading as readingOf, readerRow};
+use crate::checks::first;
+use crate::checks::in_reach;
+use crate::conditions::away;
+use crate::conditions::lacks_attribute;
+use crate::conditions::missing;
+use crate::conditions::no_access;
+use crate::effects::Effect;
+use crate::effects::Tables;
+use crate::effects::as_number;
+use crate::effects::done;
+use crate::effects::moved;
+use crate::effects::unless;
+use crate::operations::Reader;
+use crate::refusals;
+use crate::state::State;
+use crate::state::with_access;
+use tables::view::header_at;
+use tables::view::label_at;
+use tables::view::value_at;
+use words::fields::is_flagged;
+use words::fields::model_in;
+use words::fields::value_in;
+use words::layout::Kind;
+use words::sets::has;
+use words::sets::with;
+use words::sets::without;
+
+fn read_only_access(a: u32, s: State, w: &[u64]) -> Effect
+    ensures { λ r. ⌜ r ≡ rowDone s (readerRow Reader.ReadOnlyAccess a 0 s (now (w .entry))) ⌝ }
+{
+    unless(
+        in_reach(
+            label_at(w, Kind::Model, a),
+            refusals::MO_NEXS,
+            s,
+            first(
+                has(s.ro, a),
+                refusals::MX_RO,
+                first(has(s.rw, a), refusals::MX_RW, refusals::DONE),
+            ),
+        ),
+        s,
+        moved(with_access(s, with(s.ro, a), s.rw)),
+    )
+}
+
+fn end_access(a: u32, s: State, w: &[u64]) -> Effect
+    ensures { λ r. ⌜ r ≡ rowDone s (readerRow Reader.EndAccess a 0 s (now (w .entry))) ⌝ }
+{
+    unless(
+        first(
+            missing(label_at(w, Kind::Model, a)),
+            refusals::MO_NEXS,
+            first(no_access(s, a), refusals::MX_NDEF, refusals::DONE),
+        ),
+        s,
+        moved(with_access(s, without(s.ro, a), without(s.rw, a))),
+    )
+}
+
+// Of get and test, and then the rest.
+fn reading(header: u64, k: u32, s: State, w: &[u64], rest: u32) -> u32
+    ensures { λ r. ⌜ r ≡ firstOf (readingOf header k s (now (w .entry)) (known rest)) ⌝ }
+{
+    let m = model_in(header);
+    first(
+        missing(header),
+        refusals::EI_NEXS,
+        first(
+            away(s, label_at(w, Kind::Model, m)),
+            refusals::RP_NOPN,
+            first(
+                no_access(s, m),
+                refusals::MX_NDEF,
+                first(lacks_attribute(header, k), refusals::AT_NDEF, rest),
+            ),
+        ),
+    )
+}
+
+fn get(i: u32, k: u32, s: State, w: &[u64]) -> Effect
+    ensures { λ r. ⌜ r ≡ rowDone s (readerRow Reader.Get i k s (now (w .entry))) ⌝ }
+{
+    let header = header_at(w, i);
+    unless(
+        reading(
+            header,
+            k,
+            s,
+            w,
+            first(!is_flagged(header, k), refusals::VA_NSET, refusals::DONE),
+        ),
+        s,
+        done(value_in(value_at(w, i, k)), s, Tables::Stay),
+    )
+}
+
+fn test(i: u32, k: u32, s: State, w: &[u64]) -> Effect
+    ensures { λ r. ⌜ r ≡ rowDone s (readerRow Reader.Test i k s (now (w .entry))) ⌝ }
+{
+    let header = header_at(w, i);
+    unless(
+        reading(header, k, s, w, refusals::DONE),
+        s,
+        done(as_number(is_flagged(header, k)), s, Tables::Stay),
+    )
+}
+
+pub fn read(op: Reader, a: u32, b: u32, s: State, w: &[u64]) -> Effect
+    ensures { λ r. ⌜ r ≡ rowDone s (readerRow op a b s (now (w .entry))) ⌝ }
+{
+    match op {
+        Reader::ReadOnlyAccess => read_only_access(a, s, w),
+        Reader::EndAccess => end_access(a, s, w),
+        Reader::Get => get(a, b, s, w),
+        Reader::Test => test(a, b, s, w),
+    }
+}

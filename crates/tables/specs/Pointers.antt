@@ -1,9 +1,0 @@
--- The attribute of an instance that is a reference and is set.
-use Prim.Native.Nat.{ℕ}
-use mathlib.Core.Bool.{cond}
-use Rattle.words.specs.Fields.{typeIn, values, flagged}
-use Rattle.dictionary.specs.References.{referenceOf}
-
--- no type has two references; a number that no attribute has if there is none
-abbrev pub pointerIn : ℕ → ℕ
-pointerIn h = cond (flagged h (referenceOf (typeIn h))) (referenceOf (typeIn h)) values

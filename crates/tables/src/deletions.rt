@@ -1,0 +1,139 @@
+// Deletions: what goes with one, whether an instance that stays holds it back, and what it writes.
+ghost use mathlib.Core.Path.{_≡_};
+ghost use Rattle.words.specs.declared.layout.Kind.the-variants as kinds;
+ghost use Rattle.words.specs.Layout.{countOf};
+ghost use Rattle.words.specs.Fields.{values};
+ghost use Rattle.tables.specs.Quick.Going as quick;
+ghost use Rattle.tables.specs.Deletions.{goesWith, holdsBack, heldBack, detached, sweptAt, swept, ungrouped, without};
+use crate::edits::leave;
+use crate::edits::unset;
+use crate::going;
+use crate::going::Going;
+use crate::pointers::pointer_in;
+use crate::view::header_at;
+use crate::view::value_at;
+use words::entries::clear;
+use words::fields::VALUES;
+use words::fields::model_in;
+use words::layout::Kind;
+use words::layout::count;
+use words::sets::has;
+
+// Whether instance j goes with entry n of a kind. What a value word names may be any number.
+fn goes_with(t: &[u64], kind: Kind, n: u32, j: u64) -> bool
+    ensures { λ r. ⌜ r ≡ goesWith (now (t .entry)) kind n j ⌝ }
+{
+    match kind {
+        Kind::Model => {
+            if j < (count(Kind::Instance) as u64) {
+                going::is_of(t, n, j as u32)
+            } else {
+                false
+            }
+        }
+        Kind::SchemaInstance => false,
+        Kind::Instance => j == (n as u64),
+    }
+}
+
+// "an instance that stays, in another model without RW access, refers to one that would go". Access is asked first: it
+// needs no dictionary.
+fn holds_back(t: &[u64], kind: Kind, n: u32, rw: u64, i: u32) -> bool
+    ensures { λ r. ⌜ r ≡ holdsBack (now (t .entry)) (goesWith (now (t .entry)) kind n) rw i ⌝ }
+{
+    let header = header_at(t, i);
+    if has(rw, model_in(header)) {
+        return false;
+    }
+    let k = pointer_in(header);
+    if k == VALUES {
+        return false;
+    }
+    if goes_with(t, kind, n, i as u64) {
+        return false;
+    }
+    goes_with(t, kind, n, value_at(t, i, k))
+}
+
+// The deletion of entry n of a kind is held back.
+pub fn held_back(t: &[u64], kind: Kind, n: u32, rw: u64) -> bool
+    ensures { λ r. ⌜ r ≡ heldBack (now (t .entry)) kind n rw ⌝ }
+{
+    let all = count(Kind::Instance);
+    let mut i = 0;
+    while i < all {
+        if holds_back(t, kind, n, rw, i) {
+            return true;
+        }
+        i += 1;
+    }
+    false
+}
+
+// "references to them become unset"
+fn detach(t: &mut [u64], g: Going, i: u32)
+    ensures { λ _. ⌜ now (t .exit) ≡ detached (now (t .entry)) (quick.goes g) i values ⌝ }
+{
+    let k = pointer_in(header_at(t, i));
+    if k == VALUES {
+        return;
+    }
+    if going::goes(g, value_at(t, i, k)) {
+        unset(t, i, k);
+    }
+}
+
+fn sweep_at(t: &mut [u64], g: Going, i: u32)
+    ensures { λ _. ⌜ now (t .exit) ≡ sweptAt (now (t .entry)) (quick.goes g) i ⌝ }
+{
+    if going::goes(g, i as u64) {
+        clear(t, Kind::Instance, i);
+    } else {
+        detach(t, g, i);
+    }
+}
+
+// "its instances go, references to them become unset", the last instance included.
+fn sweep(t: &mut [u64], g: Going)
+    ensures { λ _. ⌜ now (t .exit) ≡ swept (now (t .entry)) (quick.goes g) (countOf kinds.Instance) ⌝ }
+{
+    let n = count(Kind::Instance);
+    let mut i = 0;
+    while i < n {
+        sweep_at(t, g, i);
+        i += 1;
+    }
+}
+
+// "it leaves all sets"
+fn ungroup(t: &mut [u64], m: u32)
+    ensures { λ _. ⌜ now (t .exit) ≡ ungrouped (now (t .entry)) m (countOf kinds.SchemaInstance) ⌝ }
+{
+    let n = count(Kind::SchemaInstance);
+    let mut s = 0;
+    while s < n {
+        leave(t, s, m);
+        s += 1;
+    }
+}
+
+// What goes is gathered before the first word is written.
+fn remove_model(t: &mut [u64], m: u32)
+    ensures { λ _. ⌜ now (t .exit) ≡ without (now (t .entry)) kinds.Model m ⌝ }
+{
+    let g = going::those_of(t, m);
+    sweep(t, g);
+    ungroup(t, m);
+    clear(t, Kind::Model, m);
+}
+
+// Entry n of a kind goes, and all that goes with it.
+pub fn remove(t: &mut [u64], kind: Kind, n: u32)
+    ensures { λ _. ⌜ now (t .exit) ≡ without (now (t .entry)) kind n ⌝ }
+{
+    match kind {
+        Kind::Model => remove_model(t, n),
+        Kind::SchemaInstance => clear(t, kind, n),
+        Kind::Instance => sweep(t, going::one(n)),
+    }
+}
