@@ -1,114 +1,29 @@
-/* Times the library beside the model, with the soundness test (call) and without it (core), and prints one table. */
-#include "full_chip.h"
-#include "rounds.h"
+/* Times the library beside the model as two compilers make it, with the soundness test (call) and without it (core), and
+ * prints one table. */
+#include "tasks.h"
 
 #include <stdio.h>
-#include <stdlib.h>
 #include <string.h>
 #include <time.h>
 
-/* Rounds are short and the sides take turns, so that what else the machine does harms both alike; the best counts. */
-#define ROUNDS 1500
+/* Rounds are short and the sides take turns, so that what else the machine does harms all alike; the best counts. */
+#define ROUNDS 300
 #define ROUND_NS 30000
 
-static void fail(const char *what)
-{
-    fprintf(stderr, "bench: %s\n", what);
-    exit(1);
-}
-
-/* ---- the chips to work on ---- */
-
-static void must(void *on, uint32_t op, uint32_t a, uint32_t b, uint32_t c)
-{
-    call asked = {op, a, b, c};
-    chip *made = on;
-    model_rounds(made, CALLS, &asked, 1, 1);
-    if (made->refusal != CHIP_DONE)
-        fail("a call that makes the full chip was refused");
-}
-
-static chip full_in_rw(void)
-{
-    chip on = {0};
-    full_chip(must, &on);
-    return on;
-}
-
-static chip full_in_ro(void)
-{
-    chip on = full_in_rw();
-    must(&on, CHIP_END_COMMIT, 0, 0, 0);
-    must(&on, CHIP_START_RO, 0, 0, 0);
-    for (uint32_t m = 0; m < CHIP_MODELS; m++)
-        must(&on, CHIP_RO_ACCESS, m, 0, 0);
-    return on;
-}
-
-static chip fresh(void)
-{
-    return (chip){0};
-}
-
-static chip unsound_at_end_in_rw(void)
-{
-    chip on = full_in_rw();
-    on.kept[CHIP_WORDS - 1] = 1;
-    return on;
-}
-
-static chip unsound_at_end_in_ro(void)
-{
-    chip on = full_in_ro();
-    on.working[CHIP_WORDS - 1] = on.kept[CHIP_WORDS - 1] = 1;
-    return on;
-}
-
-/* ---- what is timed ---- */
-
-/* A row of calls that leads back to where it began, at the latest when it is made again. */
-typedef struct task {
-    const char *what;
-    chip (*start)(void);
-    uint32_t refusal; /* what every call must answer */
-    int count;
-    call calls[3];
-} task;
-
-/* Instance 122 is a plate, 123 a cavity of another model than that of plate 2, 127 a repair that none refers to. */
-static const task tasks[] = {
-    {"get, in RO", full_in_ro, CHIP_DONE, 1, {{CHIP_GET, 122, 2, 0}}},
-    {"get, in RW", full_in_rw, CHIP_DONE, 1, {{CHIP_GET, 122, 2, 0}}},
-    {"test, in RO", full_in_ro, CHIP_DONE, 1, {{CHIP_TEST, 122, 2, 0}}},
-    {"test, in RW", full_in_rw, CHIP_DONE, 1, {{CHIP_TEST, 122, 2, 0}}},
-    {"put of a number", full_in_rw, CHIP_DONE, 1, {{CHIP_PUT, 122, 2, 77}}},
-    {"put of a reference to another model", full_in_rw, CHIP_DONE, 1, {{CHIP_PUT, 123, 2, 2}}},
-    {"delete, create instance", full_in_rw, CHIP_DONE, 2,
-     {{CHIP_DELETE_INSTANCE, 127, 0, 0}, {CHIP_CREATE_INSTANCE, 0, 7, 0}}},
-    {"delete, create, access model", full_in_rw, CHIP_DONE, 3,
-     {{CHIP_DELETE_MODEL, 63, 0, 0}, {CHIP_CREATE_MODEL, 7, 2, NAME_OF(63)}, {CHIP_RW_ACCESS, 63, 0, 0}}},
-    {"remove, add model", full_in_rw, CHIP_DONE, 2, {{CHIP_REMOVE_MODEL, 14, 62, 0}, {CHIP_ADD_MODEL, 14, 62, 0}}},
-    {"commit", full_in_rw, CHIP_DONE, 1, {{CHIP_COMMIT, 0, 0, 0}}},
-    {"abort", full_in_rw, CHIP_DONE, 1, {{CHIP_ABORT, 0, 0, 0}}},
-    {"subtype test, in RO", full_in_ro, CHIP_DONE, 1, {{CHIP_SUBTYPE_TEST, 3, 0, 0}}},
-    {"subtype test, in RW", full_in_rw, CHIP_DONE, 1, {{CHIP_SUBTYPE_TEST, 3, 0, 0}}},
-    {"FN_NAVL, in RO", full_in_ro, CHIP_FN_NAVL, 1, {{14, 0, 0, 0}}},
-    {"FN_NAVL, in RW", full_in_rw, CHIP_FN_NAVL, 1, {{14, 0, 0, 0}}},
-    {"EI_NEXS, in RO", full_in_ro, CHIP_EI_NEXS, 1, {{CHIP_GET, 128, 0, 0}}},
-    {"EI_NEXS, in RW", full_in_rw, CHIP_EI_NEXS, 1, {{CHIP_GET, 128, 0, 0}}},
-    {"SY_ERR in the last word, in RO", unsound_at_end_in_ro, CHIP_SY_ERR, 1, {{CHIP_GET, 122, 2, 0}}},
-    {"SY_ERR in the last kept word, in RW", unsound_at_end_in_rw, CHIP_SY_ERR, 1, {{CHIP_GET, 122, 2, 0}}},
-    {"open, close session, fresh", fresh, CHIP_DONE, 2, {{CHIP_OPEN_SESSION, 0, 0, 0}, {CHIP_CLOSE_SESSION, 0, 0, 0}}},
-};
-
-/* ---- timing ---- */
+/* Where a chip stands in a page, in bytes: one place alone can double a row by chance, so the best of several counts. */
+static const size_t places[] = {0, 64, 832, 2112, 3392};
+#define PLACES (sizeof places / sizeof *places)
+#define PAGE 4096
 
 typedef struct side {
     rounds *rounds;
-    enum sort sort;
     double best_ns; /* of a call */
-    _Alignas(4096) chip chip;
+    _Alignas(PAGE) unsigned char room[sizeof(subject) + PAGE];
+    subject *subject; /* in the room */
 } side;
+
+enum { GCC, CLANG, LIBRARY, SIDES };
+static side sides[SIDES] = {{.rounds = model_rounds}, {.rounds = clang_rounds}, {.rounds = library_rounds}};
 
 static uint64_t now_ns(void)
 {
@@ -117,72 +32,77 @@ static uint64_t now_ns(void)
     return (uint64_t)time.tv_sec * 1000000000 + (uint64_t)time.tv_nsec;
 }
 
-static uint64_t time_round(side *s, const task *t, unsigned long repeats)
+static uint64_t time_round(side *s, const task *t, enum sort sort, unsigned long repeats)
 {
     uint64_t start = now_ns();
-    s->rounds(&s->chip, s->sort, t->calls, t->count, repeats);
+    s->rounds(s->subject, sort, t->calls, t->count, repeats);
     return now_ns() - start;
 }
 
-static void time_best(side *s, const task *t, unsigned long repeats)
+static void time_best(side *s, const task *t, enum sort sort, unsigned long repeats)
 {
-    double ns = (double)time_round(s, t, repeats) / ((double)repeats * t->count);
+    double ns = (double)time_round(s, t, sort, repeats) / ((double)repeats * t->count);
     if (s->best_ns == 0 || ns < s->best_ns)
         s->best_ns = ns;
 }
 
-static int same_chip(const chip *one, const chip *other)
+static int same_subject(const subject *one, const subject *other)
 {
     return one->refusal == other->refusal && one->value == other->value &&
-           same_session(&one->session, &other->session) &&
-           memcmp(one->working, other->working, sizeof one->working) == 0 &&
-           memcmp(one->kept, other->kept, sizeof one->kept) == 0;
+           same_session(&one->chip.session, &other->chip.session) &&
+           memcmp(one->chip.working, other->chip.working, sizeof one->chip.working) == 0 &&
+           memcmp(one->chip.kept, other->chip.kept, sizeof one->chip.kept) == 0;
 }
 
 /* Wrong answers are not worth timing. Made twice, as the second time may begin elsewhere. */
-static void check_answers(side *model, side *library, const task *t)
+static void check_answers(const task *t, enum sort sort)
 {
     for (int n = 0; n < 2 * t->count; n++) {
-        const call *asked = &t->calls[n % t->count];
-        library->rounds(&library->chip, library->sort, asked, 1, 1);
-        model->rounds(&model->chip, model->sort, asked, 1, 1);
-        if (model->chip.refusal != t->refusal || !same_chip(&model->chip, &library->chip))
-            fail(t->what);
+        for (int s = 0; s < SIDES; s++)
+            sides[s].rounds(sides[s].subject, sort, &t->calls[n % t->count], 1, 1);
+        for (int s = 0; s < SIDES; s++)
+            if (sides[s].subject->refusal != t->refusal || !same_subject(sides[0].subject, sides[s].subject))
+                fail(t->what);
     }
 }
 
-static unsigned long repeats_for(side *s, const task *t)
+static unsigned long repeats_for(side *s, const task *t, enum sort sort)
 {
     unsigned long repeats = 1;
-    while (time_round(s, t, repeats) < ROUND_NS)
+    while (time_round(s, t, sort, repeats) < ROUND_NS)
         repeats *= 2;
     return repeats;
 }
 
 static void time_task(const task *t, enum sort sort)
 {
-    static side model, library;
-    model = (side){model_rounds, sort, 0, t->start()};
-    library = (side){library_rounds, sort, 0, t->start()};
-    check_answers(&model, &library, t);
-    unsigned long repeats = repeats_for(&model, t);
-    for (int round = 0; round < ROUNDS; round++) {
-        time_best(&model, t, repeats);
-        time_best(&library, t, repeats);
+    for (int s = 0; s < SIDES; s++)
+        sides[s].best_ns = 0;
+    for (size_t place = 0; place < PLACES; place++) {
+        subject start = t->start();
+        for (int s = 0; s < SIDES; s++) {
+            sides[s].subject = (subject *)(sides[s].room + places[place]);
+            *sides[s].subject = start;
+        }
+        check_answers(t, sort);
+        unsigned long repeats = repeats_for(&sides[GCC], t, sort);
+        for (int round = 0; round < ROUNDS; round++)
+            for (int s = 0; s < SIDES; s++)
+                time_best(&sides[s], t, sort, repeats);
     }
-    printf("| %s | %.1f | %.1f | %.2f |\n", t->what, model.best_ns, library.best_ns, library.best_ns / model.best_ns);
+    double gcc = sides[GCC].best_ns, clang = sides[CLANG].best_ns, ours = sides[LIBRARY].best_ns;
+    printf("| %s | %.1f | %.1f | %.1f | %.2f | %.2f |\n", t->what, gcc, clang, ours, ours / gcc, ours / clang);
     fflush(stdout);
 }
 
 int main(void)
 {
-    const size_t count = sizeof tasks / sizeof *tasks;
-    printf("| what | C ns | library ns | ratio |\n|---|---|---|---|\n");
-    printf("| **call: the soundness test and the operation** | | | |\n");
-    for (size_t n = 0; n < count; n++)
+    printf("| what | C by cc, ns | C by clang, ns | library ns | of cc's | of clang's |\n|---|---|---|---|---|---|\n");
+    printf("| **call: the soundness test and the operation** | | | | | |\n");
+    for (size_t n = 0; n < task_count; n++)
         time_task(&tasks[n], CALLS);
-    printf("| **core: the operation alone** | | | |\n");
-    for (size_t n = 0; n < count; n++)
+    printf("| **core: the operation alone** | | | | | |\n");
+    for (size_t n = 0; n < task_count; n++)
         if (tasks[n].refusal != CHIP_SY_ERR)
             time_task(&tasks[n], CORES);
     return 0;

@@ -4,19 +4,19 @@
 
 #include "../tests/compare/call.h"
 
-typedef struct chip {
-    chip_session session;
+typedef struct subject {
+    chip chip;
     uint32_t refusal, value; /* of the last answer */
-    uint64_t working[CHIP_WORDS], kept[CHIP_WORDS];
-} chip;
+} subject;
 
 /* With the soundness test or without it. */
 enum sort { CALLS, CORES };
 
 /* Makes the calls in turn, all of them `repeats` times. */
-typedef void rounds(chip *on, enum sort sort, const call *calls, int count, unsigned long repeats);
+typedef void rounds(subject *on, enum sort sort, const call *calls, int count, unsigned long repeats);
 
 rounds library_rounds;
 rounds model_rounds;
+rounds clang_rounds;
 
 #endif

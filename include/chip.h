@@ -1,21 +1,43 @@
-/* The chip library: storage for a data chip bolted to an injection mould, after ISO 10303-22 as narrowed by document 01.
+/* The chip library: storage for a data chip bolted to an injection mould, after ISO 10303-22 as narrowed for this chip.
+ * docs/CHIP.md is the manual: every word of a table, every operation with its refusals in order.
  *
- * There is one function, chip_call. It takes every operation number, all arguments, any bits in the session and tables of
- * any length and content, and always returns; nothing is the caller's duty to test.
+ * The archive has one function, chip_call. It takes every operation number, all arguments, any bits in the session
+ * and tables of any length and content, and always returns; nothing is the caller's duty to test. The functions at the end
+ * of this file are inline: a chip in one struct, and names for numbers.
  *
  * What the caller owes: `working` and `kept` point at `working_words` and `kept_words` words that may be read and written,
- * and the two do not overlap. Nothing else.
+ * each at a multiple of 8 bytes, and the two do not overlap. A null pointer with length 0 is taken. Nothing else.
  *
  * A fresh chip is two tables of CHIP_WORDS zero words and a session of zero bytes. Between calls the caller keeps the
  * session that the last answer holds. The kept table is what a chip holds that lost power: to go on from one, copy it to
- * the working table and begin with a session of zero bytes.
+ * the working table and begin with a session of zero bytes (chip_restart).
  *
- * Link with libchip.a (x86-64), which needs nothing but the C library. */
+ * Cost: no memory is asked for, no file is touched, nothing is kept between calls. A call takes less than 2 KB of stack on
+ * x86-64, besides the session and the answer in the caller's frame, and its time has a bound: every loop is over the
+ * entries of a table. docs/BENCH.md has the times.
+ *
+ * Threads: there is no global state, so calls on different chips may run at the same time, in an interrupt too. Two calls
+ * on one chip may not: the later one needs the session of the earlier.
+ *
+ * Power: what is proved is what a call leaves when it returns. CHIP_COMMIT and CHIP_END_COMMIT copy the words to the kept
+ * table in no stated order, so power that goes in the middle may leave a kept table that is neither the old nor the new.
+ * No other operation writes the kept table. A host that must survive this can hold two areas for kept tables and a mark
+ * that names the whole one: after a commit has returned, write the other area, and change the mark last. A test at the
+ * start, CHIP_OPEN_SESSION after chip_restart, tells most of the damage and not all: CHIP_SY_ERR says that the table is not
+ * sound, but one that mixes words of two commits can be sound. What the memory itself does then is not proved here.
+ *
+ * Link with libchip.a, which needs nothing but memmove of the C library. The proof is about the code before it was compiled:
+ * docs/PROMISES.md says what has to be believed besides. */
 #ifndef CHIP_H
 #define CHIP_H
 
 #include <stddef.h>
 #include <stdint.h>
+
+/* The edition counts the change requests that are in; 0 is the base. The number is 10000 * major + 100 * minor + patch. */
+#define CHIP_EDITION 0
+#define CHIP_VERSION "0.1.0"
+#define CHIP_VERSION_NUMBER 100
 
 #ifdef __cplusplus
 extern "C" {
@@ -26,7 +48,7 @@ extern "C" {
  * Words from CHIP_WORDS on are never read or written; a table with fewer is CHIP_SY_ERR.
  *
  *   model m              at m            name + 2^32 * repository + 2^40 * schema; 0 if free
- *   schema instance s    at 64 + 2 s     a word of the same form, then the set of its models, bit m for model m
+ *   schema instance s    at 64 + 2 s     a word like a model's, then a set: bit m says that it has model m
  *   instance i           at 96 + 5 i     1 + type + 2^8 * model + 2^16 * flags, then four values; five zeros if free
  *
  * Flag k of an instance says that its attribute k is set; the word of an attribute that is not set is 0. */
@@ -42,6 +64,46 @@ extern "C" {
 #define CHIP_MODEL_AT(m) (m)
 #define CHIP_SCHEMA_INSTANCE_AT(s) (64 + 2 * (s))
 #define CHIP_INSTANCE_AT(i) (96 + 5 * (i))
+
+/* ---- the dictionary ----
+ *
+ * Inherited attributes come first, so CHIP_ITEM_NUMBER is the number of a plate too. A reference has the name of the type
+ * that it leads to, and its value is the number of an instance. */
+enum chip_type {
+    CHIP_ITEM = 0,
+    CHIP_PART = 1,       /* an item */
+    CHIP_PLATE = 2,      /* a part */
+    CHIP_CAVITY = 3,     /* a part */
+    CHIP_ASSEMBLY = 4,   /* an item */
+    CHIP_EVENT = 5,
+    CHIP_SHOT_COUNT = 6, /* an event */
+    CHIP_REPAIR = 7,     /* an event */
+    CHIP_READING = 8,
+    CHIP_WEAR = 9        /* a reading */
+};
+
+enum chip_attribute {
+    CHIP_ITEM_NUMBER = 0,
+    CHIP_PART_NUMBER = 0,
+    CHIP_PART_MASS = 1,
+    CHIP_PLATE_NUMBER = 0,
+    CHIP_PLATE_MASS = 1,
+    CHIP_PLATE_THICKNESS = 2,
+    CHIP_CAVITY_NUMBER = 0,
+    CHIP_CAVITY_MASS = 1,
+    CHIP_CAVITY_PLATE = 2,
+    CHIP_ASSEMBLY_NUMBER = 0,
+    CHIP_ASSEMBLY_ITEM = 1,
+    CHIP_EVENT_DAY = 0,
+    CHIP_SHOT_COUNT_DAY = 0,
+    CHIP_SHOT_COUNT_PART = 1,
+    CHIP_SHOT_COUNT_SHOTS = 2,
+    CHIP_REPAIR_DAY = 0,
+    CHIP_REPAIR_PART = 1,
+    CHIP_READING_VALUE = 0,
+    CHIP_WEAR_VALUE = 0,
+    CHIP_WEAR_READING = 1
+};
 
 /* ---- the session ---- */
 
@@ -61,7 +123,7 @@ typedef struct chip_event {
 } chip_event;
 
 /* A session, as the caller holds it between calls. Every bit pattern is taken; one that is not sound is CHIP_SY_ERR. The
- * bytes after the last field carry nothing. */
+ * four bytes after the last field carry nothing: sessions are compared field by field, not by memcmp. */
 typedef struct chip_session {
     chip_event events[CHIP_EVENTS]; /* the oldest first */
     uint64_t count;                 /* how many events there are; the places after them are 0 */
@@ -90,7 +152,7 @@ enum chip_operation {
     CHIP_CLOSE_REPOSITORY = 4,        /* a: repository */
     CHIP_START_RW = 5,                /* a read-write transaction */
     CHIP_START_RO = 6,                /* a read-only transaction */
-    CHIP_COMMIT = 7,                  /* working is copied to kept; access stays */
+    CHIP_COMMIT = 7,                  /* kept becomes as working; access stays */
     CHIP_ABORT = 8,                   /* kept is copied to working; access ends, the transaction stays */
     CHIP_END_COMMIT = 9,              /* commit, and no transaction after it */
     CHIP_END_ABORT = 10,              /* abort, and no transaction after it */
@@ -104,8 +166,8 @@ enum chip_operation {
     CHIP_END_ACCESS = 24,             /* a: model */
     CHIP_CREATE_SCHEMA_INSTANCE = 30, /* a: repository, b: schema, c: name; value: its number */
     CHIP_DELETE_SCHEMA_INSTANCE = 31, /* a: schema instance */
-    CHIP_ADD_MODEL = 32,              /* a: schema instance, b: model; value: models now in the set */
-    CHIP_REMOVE_MODEL = 33,           /* a: schema instance, b: model; value: models now in the set */
+    CHIP_ADD_MODEL = 32,              /* a: schema instance, b: model; value: how many models the set has now */
+    CHIP_REMOVE_MODEL = 33,           /* a: schema instance, b: model; value: how many models the set has now */
     CHIP_CREATE_INSTANCE = 40,        /* a: model, b: type; value: its number */
     CHIP_DELETE_INSTANCE = 41,        /* a: instance; references to it become unset */
     CHIP_GET = 42,                    /* a: instance, b: attribute; value: what it holds */
@@ -152,10 +214,152 @@ enum chip_refusal {
     CHIP_NO_ROOM = 32  /* every entry is live */
 };
 
+/* ---- the call ---- */
+
+/* What crosses the border has these sizes and places, or this header is not for this machine. */
+#define CHIP_MUST_HOLD(name, fact) typedef char chip_must_hold_##name[(fact) ? 1 : -1]
+CHIP_MUST_HOLD(size_t_is_8_bytes, sizeof(size_t) == 8);
+CHIP_MUST_HOLD(event_is_8_bytes, sizeof(chip_event) == 8 && offsetof(chip_event, refusal) == 4);
+CHIP_MUST_HOLD(session_begins_with_events, offsetof(chip_session, events) == 0 && offsetof(chip_session, count) == 128);
+CHIP_MUST_HOLD(session_has_its_sets, offsetof(chip_session, repositories) == 136 && offsetof(chip_session, ro) == 144 &&
+                                         offsetof(chip_session, rw) == 152);
+CHIP_MUST_HOLD(session_ends_with_its_state, offsetof(chip_session, opened) == 160 &&
+                                                offsetof(chip_session, recording) == 164 &&
+                                                offsetof(chip_session, transaction) == 168);
+CHIP_MUST_HOLD(session_is_176_bytes, sizeof(chip_session) == 176);
+CHIP_MUST_HOLD(answer_begins_with_its_numbers, offsetof(chip_answer, refusal) == 0 && offsetof(chip_answer, value) == 4);
+CHIP_MUST_HOLD(answer_is_184_bytes, offsetof(chip_answer, session) == 8 && sizeof(chip_answer) == 184);
+
 /* One operation: its number, its arguments, the session, the working and the kept table. */
 chip_answer chip_call(uint32_t op, uint32_t a, uint32_t b, uint32_t c, chip_session session,
                       uint64_t *working, size_t working_words,
                       uint64_t *kept, size_t kept_words);
+
+/* ---- a chip in one struct ---- */
+
+/* Some 12 KB: a session and its tables, which cannot overlap. */
+typedef struct chip {
+    chip_session session;
+    uint64_t working[CHIP_WORDS];
+    uint64_t kept[CHIP_WORDS];
+} chip;
+
+/* An answer whose session went where it belongs. */
+typedef struct chip_result {
+    uint32_t refusal;
+    uint32_t value;
+} chip_result;
+
+/* All zeros. */
+static inline void chip_fresh(chip *on)
+{
+    unsigned char *bytes = (unsigned char *)on;
+    size_t n;
+    for (n = 0; n < sizeof *on; n++)
+        bytes[n] = 0;
+}
+
+/* After a loss of power: the kept table is all that is left. */
+static inline void chip_restart(chip *on)
+{
+    unsigned char *bytes = (unsigned char *)&on->session;
+    size_t n;
+    for (n = 0; n < sizeof on->session; n++)
+        bytes[n] = 0;
+    for (n = 0; n < CHIP_WORDS; n++)
+        on->working[n] = on->kept[n];
+}
+
+/* chip_call on it. */
+static inline chip_result chip_do(chip *on, uint32_t op, uint32_t a, uint32_t b, uint32_t c)
+{
+    chip_answer answer = chip_call(op, a, b, c, on->session, on->working, CHIP_WORDS, on->kept, CHIP_WORDS);
+    chip_result result;
+    on->session = answer.session;
+    result.refusal = answer.refusal;
+    result.value = answer.value;
+    return result;
+}
+
+/* ---- names for numbers ---- */
+
+/* Its name as above, without CHIP_, or "done"; "unknown refusal" for a number that is none. */
+static inline const char *chip_refusal_name(uint32_t refusal)
+{
+    switch (refusal) {
+    case CHIP_DONE: return "done";
+    case CHIP_SY_ERR: return "SY_ERR";
+    case CHIP_FN_NAVL: return "FN_NAVL";
+    case CHIP_SS_OPN: return "SS_OPN";
+    case CHIP_SS_NOPN: return "SS_NOPN";
+    case CHIP_TR_EAB: return "TR_EAB";
+    case CHIP_TR_EXS: return "TR_EXS";
+    case CHIP_TR_NEXS: return "TR_NEXS";
+    case CHIP_TR_NAVL: return "TR_NAVL";
+    case CHIP_TR_NRW: return "TR_NRW";
+    case CHIP_RP_NEXS: return "RP_NEXS";
+    case CHIP_RP_OPN: return "RP_OPN";
+    case CHIP_RP_NOPN: return "RP_NOPN";
+    case CHIP_MO_NEXS: return "MO_NEXS";
+    case CHIP_MO_DUP: return "MO_DUP";
+    case CHIP_MO_NDEQ: return "MO_NDEQ";
+    case CHIP_MO_NVLD: return "MO_NVLD";
+    case CHIP_MX_RO: return "MX_RO";
+    case CHIP_MX_RW: return "MX_RW";
+    case CHIP_MX_NDEF: return "MX_NDEF";
+    case CHIP_MX_NRW: return "MX_NRW";
+    case CHIP_SD_NDEF: return "SD_NDEF";
+    case CHIP_SI_NEXS: return "SI_NEXS";
+    case CHIP_SI_DUP: return "SI_DUP";
+    case CHIP_ED_NDEF: return "ED_NDEF";
+    case CHIP_ED_NDEQ: return "ED_NDEQ";
+    case CHIP_ED_NVLD: return "ED_NVLD";
+    case CHIP_EI_NEXS: return "EI_NEXS";
+    case CHIP_AT_NDEF: return "AT_NDEF";
+    case CHIP_VA_NSET: return "VA_NSET";
+    case CHIP_VA_NVLD: return "VA_NVLD";
+    case CHIP_VT_NVLD: return "VT_NVLD";
+    case CHIP_NO_ROOM: return "NO_ROOM";
+    default: return "unknown refusal";
+    }
+}
+
+/* "unknown operation" for a number that is not listed. */
+static inline const char *chip_operation_name(uint32_t op)
+{
+    switch (op) {
+    case CHIP_OPEN_SESSION: return "open session";
+    case CHIP_CLOSE_SESSION: return "close session";
+    case CHIP_OPEN_REPOSITORY: return "open repository";
+    case CHIP_CLOSE_REPOSITORY: return "close repository";
+    case CHIP_START_RW: return "start RW";
+    case CHIP_START_RO: return "start RO";
+    case CHIP_COMMIT: return "commit";
+    case CHIP_ABORT: return "abort";
+    case CHIP_END_COMMIT: return "end, commit";
+    case CHIP_END_ABORT: return "end, abort";
+    case CHIP_RECORDING_ON: return "recording on";
+    case CHIP_RECORDING_OFF: return "recording off";
+    case CHIP_STORAGE_FAULT: return "storage fault";
+    case CHIP_CREATE_MODEL: return "create model";
+    case CHIP_DELETE_MODEL: return "delete model";
+    case CHIP_RO_ACCESS: return "RO access";
+    case CHIP_RW_ACCESS: return "RW access";
+    case CHIP_END_ACCESS: return "end access";
+    case CHIP_CREATE_SCHEMA_INSTANCE: return "create schema instance";
+    case CHIP_DELETE_SCHEMA_INSTANCE: return "delete schema instance";
+    case CHIP_ADD_MODEL: return "add model";
+    case CHIP_REMOVE_MODEL: return "remove model";
+    case CHIP_CREATE_INSTANCE: return "create instance";
+    case CHIP_DELETE_INSTANCE: return "delete instance";
+    case CHIP_GET: return "get";
+    case CHIP_TEST: return "test";
+    case CHIP_PUT: return "put";
+    case CHIP_UNSET: return "unset";
+    case CHIP_SUBTYPE_TEST: return "subtype test";
+    default: return "unknown operation";
+    }
+}
 
 #ifdef __cplusplus
 }

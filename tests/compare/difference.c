@@ -1,7 +1,5 @@
 #include "difference.h"
 
-#include "pairs.h"
-
 #include <stdio.h>
 #include <string.h>
 
@@ -66,11 +64,11 @@ void print_difference(const call *asked, const side *library, const chip_answer 
                       const chip_answer *models)
 {
     printf("  op %u (%s), a %u, b %u, c %u; %zu working and %zu kept words\n", (unsigned)asked->op,
-           operation_name(asked->op), (unsigned)asked->a, (unsigned)asked->b, (unsigned)asked->c,
+           chip_operation_name(asked->op), (unsigned)asked->a, (unsigned)asked->b, (unsigned)asked->c,
            model->working_words, model->kept_words);
     if (its->refusal != models->refusal)
-        printf("  refusal: library %u %s, model %u %s\n", (unsigned)its->refusal, refusal_name(its->refusal),
-               (unsigned)models->refusal, refusal_name(models->refusal));
+        printf("  refusal: library %u %s, model %u %s\n", (unsigned)its->refusal, chip_refusal_name(its->refusal),
+               (unsigned)models->refusal, chip_refusal_name(models->refusal));
     print_field("value", its->value, models->value);
     print_sessions(&its->session, &models->session);
     print_tables("working", working_of(library), working_of(model), model->working_words);

@@ -64,6 +64,11 @@ static int one_name_thrice(dice *d, uint64_t *table, uint64_t access)
     return 1;
 }
 
+static int names_of_one_chain(dice *d, uint64_t *table, uint64_t access)
+{
+    return chained_names(d, table, access) != 0;
+}
+
 /* References stay where no set holds both models any more. */
 static int sets_emptied(dice *d, uint64_t *table, uint64_t access)
 {
@@ -111,6 +116,7 @@ const damage harmless_changes[] = {
     {"blank working table under RW", NULL, working_is_blank},
     {"access of a model that is in the working table only", NULL, access_of_new_model},
     {"one name in two repositories and for a schema instance", one_name_thrice, NULL},
+    {"names of one chain", names_of_one_chain, NULL},
     {"references between models that share no set", sets_emptied, NULL},
     {"set values of 0", set_values_of_0, NULL},
     {"values of 2^32 - 1", largest_values, NULL},

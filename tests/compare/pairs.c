@@ -7,24 +7,6 @@
 #define OPS (CHIP_SUBTYPE_TEST + 1)
 #define REFUSALS (CHIP_NO_ROOM + 1)
 
-static const char *const refusals[REFUSALS] = {
-    "done",    "SY_ERR",  "FN_NAVL", "SS_OPN",  "SS_NOPN", "TR_EAB",  "TR_EXS",  "TR_NEXS", "TR_NAVL",
-    "TR_NRW",  "RP_NEXS", "RP_OPN",  "RP_NOPN", "MO_NEXS", "MO_DUP",  "MO_NDEQ", "MO_NVLD", "MX_RO",
-    "MX_RW",   "MX_NDEF", "MX_NRW",  "SD_NDEF", "SI_NEXS", "SI_DUP",  "ED_NDEF", "ED_NDEQ", "ED_NVLD",
-    "EI_NEXS", "AT_NDEF", "VA_NSET", "VA_NVLD", "VT_NVLD", "NO_ROOM",
-};
-
-/* Row 0 stands for every operation number that is not listed. */
-static const char *const operations[OPS] = {
-    [0] = "(not listed)", [1] = "open session", [2] = "close session", [3] = "open repository",
-    [4] = "close repository", [5] = "start RW", [6] = "start RO", [7] = "commit", [8] = "abort", [9] = "end, commit",
-    [10] = "end, abort", [11] = "recording on", [12] = "recording off", [13] = "storage fault", [20] = "create model",
-    [21] = "delete model", [22] = "RO access", [23] = "RW access", [24] = "end access",
-    [30] = "create schema instance", [31] = "delete schema instance", [32] = "add model", [33] = "remove model",
-    [40] = "create instance", [41] = "delete instance", [42] = "get", [43] = "test", [44] = "put", [45] = "unset",
-    [46] = "subtype test",
-};
-
 #define R(name) ((uint64_t)1 << CHIP_##name)
 
 /* SY_ERR for every call, SS_NOPN for all but 1, and the transaction checks of 20 to 45. */
@@ -33,7 +15,7 @@ static const char *const operations[OPS] = {
 #define READER (OPENED | R(TR_EAB) | R(TR_NAVL))
 #define WRITER (READER | R(TR_NRW))
 
-/* The table of operations in document 01; bit n of a row for refusal n. */
+/* The table of operations in document 01; bit n of a row for refusal n. Row 0 stands for every number that is not listed. */
 static const uint64_t listed[OPS] = {
     [0] = R(SY_ERR) | R(FN_NAVL),
     [1] = EVERY | R(SS_OPN),
@@ -71,17 +53,7 @@ static uint64_t reached[OPS];
 
 static uint32_t row_of(uint32_t op)
 {
-    return op < OPS && operations[op] ? op : 0;
-}
-
-const char *operation_name(uint32_t op)
-{
-    return operations[row_of(op)];
-}
-
-const char *refusal_name(uint32_t refusal)
-{
-    return refusal < REFUSALS ? refusals[refusal] : "(no refusal)";
+    return op < OPS && listed[op] ? op : 0;
 }
 
 static int has_pair(const uint64_t *rows, uint32_t op, uint32_t refusal)
@@ -111,6 +83,6 @@ int print_pairs(int names)
     for (uint32_t op = 0; names && op < OPS; op++)
         for (uint32_t refusal = 0; refusal < REFUSALS; refusal++)
             if (has_pair(listed, op, refusal) && !has_pair(reached, op, refusal))
-                printf("  not reached: %u %s, %s\n", (unsigned)op, operation_name(op), refusal_name(refusal));
+                printf("  not reached: %u %s, %s\n", (unsigned)op, chip_operation_name(op), chip_refusal_name(refusal));
     return missing;
 }

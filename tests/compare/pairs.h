@@ -4,9 +4,6 @@
 
 #include <stdint.h>
 
-const char *operation_name(uint32_t op);
-const char *refusal_name(uint32_t refusal);
-
 /* Counts the pair; 0 if document 01 does not have it. */
 int pair_reached(uint32_t op, uint32_t refusal);
 

@@ -64,6 +64,35 @@ uint64_t new_entry(dice *d, uint32_t schema)
     return name | (uint64_t)below(d, CHIP_REPOSITORIES) << 32 | (uint64_t)schema << 40;
 }
 
+/* The library's chain of a name: crates/tables/src/names.rt. */
+static uint32_t chain_of(uint32_t name)
+{
+    return (uint64_t)name * 0x85ebca6b >> 25 & 127;
+}
+
+/* The next name of its chain. */
+static uint64_t next_in_chain(uint64_t entry)
+{
+    uint32_t chain = chain_of((uint32_t)entry);
+    do
+        entry++;
+    while (chain_of((uint32_t)entry) != chain);
+    return entry;
+}
+
+uint64_t chained_names(dice *d, uint64_t *table, uint64_t access)
+{
+    uint64_t models = 0;
+    uint64_t entry = new_entry(d, any_schema(d)) ^ 0x10000000;
+    for (uint32_t s = 0; s < CHIP_SCHEMA_INSTANCES; s++) {
+        table[CHIP_SCHEMA_INSTANCE_AT(s)] = entry = next_in_chain(entry);
+        table[CHIP_SCHEMA_INSTANCE_AT(s) + 1] = 0;
+    }
+    for (uint32_t m; (m = idle_model(d, table, access | models)) != NOWHERE; models |= (uint64_t)1 << m)
+        table[m] = entry = next_in_chain(entry);
+    return models;
+}
+
 uint32_t any_schema(dice *d)
 {
     return 1 + below(d, 2);

@@ -20,6 +20,10 @@ uint32_t idle_model(dice *d, const uint64_t *table, uint64_t access);
 /* A model or schema instance of any repository, with a name that no walk gives. */
 uint64_t new_entry(dice *d, uint32_t schema);
 
+/* Every idle model and every schema instance, its set emptied, gets a name of its own, and the library keeps all of these in
+ * one chain. Gives the models. */
+uint64_t chained_names(dice *d, uint64_t *table, uint64_t access);
+
 uint32_t any_schema(dice *d);
 
 /* A place that no other instance refers to, made free; never `except`. */

@@ -146,6 +146,18 @@ static int model_named_twice_over_schemas(dice *d, uint64_t *table, uint64_t acc
     return same_model_name(d, table, access, OTHER_SCHEMA);
 }
 
+/* Any two of the chain. */
+static int named_twice_in_a_chain(dice *d, uint64_t *table, uint64_t access)
+{
+    uint64_t models = chained_names(d, table, access);
+    uint32_t named = idle_model(d, table, ~models);
+    uint32_t twin = named == NOWHERE ? NOWHERE : idle_model(d, table, ~models | (uint64_t)1 << named);
+    if (twin == NOWHERE)
+        return 0;
+    table[twin] = table[named] ^ (one_in(d, 2) ? OTHER_SCHEMA : 0);
+    return 1;
+}
+
 static int same_schema_instance_name(dice *d, uint64_t *table, uint64_t change)
 {
     uint32_t named = live_schema_instance(d, table);
@@ -476,6 +488,7 @@ const damage table_damages[] = {
     {"free schema instance with a set", free_schema_instance_with_set, NULL},
     {"two models of one name", model_named_twice, NULL},
     {"two models of one name and two schemas", model_named_twice_over_schemas, NULL},
+    {"two models of one name among names of one chain", named_twice_in_a_chain, NULL},
     {"two schema instances of one name", schema_instance_named_twice, NULL},
     {"two schema instances of one name and two schemas", schema_instance_named_twice_over_schemas, NULL},
     {"set names a free model", set_names_free_model, NULL},

@@ -1,33 +1,48 @@
-/* Makes a plate on a fresh chip, reads it back and keeps it. */
+/* Makes a plate on a fresh chip, reads it back and keeps it; then power is lost, and the plate is read from what was kept. */
 #include "chip.h"
 
 #include <stdio.h>
 
-static uint64_t working[CHIP_WORDS], kept[CHIP_WORDS];
-static chip_session session;
 static int refused;
 
-static uint32_t step(const char *what, uint32_t op, uint32_t a, uint32_t b, uint32_t c)
+static uint32_t ask(chip *on, uint32_t op, uint32_t a, uint32_t b, uint32_t c)
 {
-    chip_answer answer = chip_call(op, a, b, c, session, working, CHIP_WORDS, kept, CHIP_WORDS);
-    session = answer.session;
-    refused |= answer.refusal != CHIP_DONE;
-    printf("%s: refusal %u, value %u\n", what, (unsigned)answer.refusal, (unsigned)answer.value);
-    return answer.value;
+    chip_result result = chip_do(on, op, a, b, c);
+    refused |= result.refusal != CHIP_DONE;
+    printf("%s: %s, value %u\n", chip_operation_name(op), chip_refusal_name(result.refusal), (unsigned)result.value);
+    return result.value;
+}
+
+static void make_plate(chip *on, uint32_t repository, uint32_t schema, uint32_t name)
+{
+    uint32_t model, plate;
+    ask(on, CHIP_OPEN_SESSION, 0, 0, 0);
+    ask(on, CHIP_OPEN_REPOSITORY, repository, 0, 0);
+    ask(on, CHIP_START_RW, 0, 0, 0);
+    model = ask(on, CHIP_CREATE_MODEL, repository, schema, name);
+    ask(on, CHIP_RW_ACCESS, model, 0, 0);
+    plate = ask(on, CHIP_CREATE_INSTANCE, model, CHIP_PLATE, 0);
+    ask(on, CHIP_PUT, plate, CHIP_PLATE_THICKNESS, 25);
+    ask(on, CHIP_GET, plate, CHIP_PLATE_THICKNESS, 0);
+    ask(on, CHIP_END_COMMIT, 0, 0, 0);
+}
+
+static void read_plate(chip *on, uint32_t repository, uint32_t model, uint32_t plate)
+{
+    ask(on, CHIP_OPEN_SESSION, 0, 0, 0);
+    ask(on, CHIP_OPEN_REPOSITORY, repository, 0, 0);
+    ask(on, CHIP_START_RO, 0, 0, 0);
+    ask(on, CHIP_RO_ACCESS, model, 0, 0);
+    ask(on, CHIP_GET, plate, CHIP_PLATE_THICKNESS, 0);
+    ask(on, CHIP_CLOSE_SESSION, 0, 0, 0);
 }
 
 int main(void)
 {
-    const uint32_t repository = 0, schema = 1, name = 7, plate = 2, thickness = 2;
-    step("open session", CHIP_OPEN_SESSION, 0, 0, 0);
-    step("open repository", CHIP_OPEN_REPOSITORY, repository, 0, 0);
-    step("start read-write transaction", CHIP_START_RW, 0, 0, 0);
-    uint32_t model = step("create model", CHIP_CREATE_MODEL, repository, schema, name);
-    step("start read-write access", CHIP_RW_ACCESS, model, 0, 0);
-    uint32_t instance = step("create plate", CHIP_CREATE_INSTANCE, model, plate, 0);
-    step("put thickness", CHIP_PUT, instance, thickness, 25);
-    step("get thickness", CHIP_GET, instance, thickness, 0);
-    step("end transaction, commit", CHIP_END_COMMIT, 0, 0, 0);
-    step("close session", CHIP_CLOSE_SESSION, 0, 0, 0);
+    static chip on;
+    chip_fresh(&on);
+    make_plate(&on, 0, 1, 7);
+    chip_restart(&on);
+    read_plate(&on, 0, 0, 0);
     return refused;
 }

@@ -96,7 +96,7 @@ climbing e f (suc n) t = f t (above e (climbing e f n) (parentOf t))
 unfoldable pub climb : {A : Type 0} → A → (ℕ → A → A) → ℕ → A
 climb e f t = climbing e f (suc t) t
 
--- "Inherited attributes come first."
+-- what is inherited, and then its own
 unfoldable pub attributesOf : ℕ → List Attribute
 attributesOf t = climb [] (λ u inherited. inherited ++ ownOf u) t
 

@@ -2,4 +2,3 @@ pub mod Dictionary
 pub mod Subtype
 pub mod Quick
 pub mod Laws
-pub mod Cases

@@ -1,5 +1,4 @@
--- "A type is a subtype of another if it is the same type or its parent is a subtype of that other": as a test that
--- computes, and as a relation.
+-- Subtypes (CHIP, dictionary): as a test that computes, and as a relation.
 use mathlib.Core.Path.{_≡_}
 use mathlib.Core.Bool.{Bool, false, _||_}
 use Prim.Native.Nat.{ℕ}

@@ -14,7 +14,7 @@ pub fn attributes(t: u32) -> u32
     attributes_in(shape(t))
 }
 
-// "Inherited attributes come first", so a type's attribute stands in the same place in all of its subtypes.
+// What is inherited stands first, so a type's attribute stands in the same place in all of its subtypes.
 pub fn attribute(t: u32, k: u32) -> Attribute
     ensures { λ r. ⌜ r ≡ attributeOf t k ⌝ }
 {

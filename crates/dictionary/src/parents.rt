@@ -20,8 +20,7 @@ pub fn parent(t: u32) -> Parent
     }
 }
 
-// "A type is a subtype of another if it is the same type or its parent is a subtype of that other." It ends because a
-// parent's number is lower.
+// The same type, or one whose parent is a subtype (CHIP, dictionary). It ends because a parent's number is lower.
 pub fn subtype(a: u32, b: u32) -> bool
     ensures { λ r. ⌜ r ≡ spec.subtype a b ⌝ }
 {

@@ -36,7 +36,7 @@ fn named(len: u32, bytes: [u8; 10]) -> Name
     Name { len, bytes }
 }
 
-// "Types 0 to 7 are schema 1, 8 and 9 schema 2." A number that is no type is of schema 0.
+// The last two types are of schema 2, the others of schema 1; a number that is no type is of schema 0.
 pub fn schema(t: u32) -> u32
     ensures { λ r. ⌜ r ≡ schemaOf t ⌝ }
 {

@@ -1,4 +1,4 @@
-// What document 01 calls easy to get wrong.
+// What is easy to get wrong (CHIP, edges).
 use crate::asking::Chip;
 use crate::asking::Counting;
 use crate::asking::lead;
@@ -7,7 +7,7 @@ use crate::asking::show;
 use crate::asking::started;
 use crate::printing::title;
 
-// "A scan that stops one short of the last entry": the last instance refers to instance 0, by the last set alone.
+// A scan that stops one short of the last entry would miss this: the last instance refers to instance 0, by the last set alone.
 fn last_entry() {
     title(b"A scan that stops one short of the last entry.");
     let c = started();
@@ -23,7 +23,7 @@ fn last_entry() {
     show(c, 42, 127, 2, 0);
 }
 
-// "Access kept over an abort, when the number may return as another model."
+// An abort ends access, since the number may come back as another model's.
 fn access_over_an_abort() {
     title(b"Access kept over an abort, when the number may return as another model.");
     let c = started();
@@ -49,7 +49,7 @@ fn referring() -> Chip {
     lead(c, 5, 0, 0, 0)
 }
 
-// "Deleting an instance and leaving references to its number, which a new instance then takes."
+// A reference to a deleted instance is unset: its number may be another's soon.
 fn reference_left() {
     title(
         b"Deleting an instance and leaving references to its number, which a new instance then takes.",
@@ -63,7 +63,7 @@ fn reference_left() {
     show(c, 43, 1, 2, 0);
 }
 
-// "Deletion that edits a read-only model."
+// A deletion changes no model without RW access.
 fn read_only_model() {
     title(b"Deletion that edits a read-only model.");
     let c = referring();

@@ -6,7 +6,7 @@ use crate::asking::show;
 use crate::asking::started;
 use crate::printing::title;
 
-// "The 64th model is 63, and can be read, deleted and made again; the 65th is NO_ROOM, with a taken name MO_DUP."
+// The last model, 63, is an entry like the others; one more has no room, but a taken name is told first.
 fn last() {
     title(b"The 64th model is 63, and can be read, deleted and made again; the 65th is NO_ROOM.");
     let c = started();
@@ -27,7 +27,7 @@ fn last() {
     show(c, 20, 1, 2, 63);
 }
 
-// "Delete 17 of 64: the next is 17."
+// The place that a deletion frees in a full table is the next one taken.
 fn freed() {
     title(b"Delete 17 of 64: the next is 17.");
     let c = started();

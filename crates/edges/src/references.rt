@@ -4,7 +4,7 @@ use crate::asking::show;
 use crate::asking::started;
 use crate::printing::title;
 
-// "Put to a plate in an unshared model: MO_NVLD; after both are in one set: done."
+// A reference into another model needs a set that has both.
 fn shared() {
     title(b"Put to a plate in an unshared model: MO_NVLD; after both are in one set: done.");
     let c = started();
@@ -22,7 +22,7 @@ fn shared() {
     let c = show(c, 32, 0, 1, 0);
     let c = show(c, 44, 1, 2, 0);
     let c = show(c, 42, 1, 2, 0);
-    // "References made before 33 or 31 stay."
+    // It outlives the set that allowed it.
     let c = show(c, 33, 0, 1, 0);
     show(c, 42, 1, 2, 0);
 }

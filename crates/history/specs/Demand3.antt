@@ -1,5 +1,5 @@
--- Demand 3: "For any list of operations from fresh".
-use Prim.Native.Nat.{ℕ, _-_}
+-- Demand 3: what a table tells of the calls that remain, and what the theorems ask of a call.
+use Prim.Native.Nat.{ℕ, _-_, _<_}
 use mathlib.Core.Path.{_≡_}
 use mathlib.Core.Bool.{true}
 use mathlib.Core.Logic.{_↔_}
@@ -8,41 +8,51 @@ use Rattle.words.specs.declared.layout.Kind.{Kind}
 use Rattle.words.specs.declared.layout.Kind.the-variants.{Model, SchemaInstance, Instance}
 use Rattle.words.specs.Layout.{countOf}
 use Rattle.words.specs.Sets.{has}
-use Rattle.words.specs.Fields.{headerOf}
-use Rattle.tables.specs.View.{isLive, labelAt, setAt, typeAt, modelAt, isSet, valueAt}
-use Rattle.tables.specs.declared.changes.Change.{Change}
-use Rattle.session.specs.declared.operations.Operation.{Operation}
-use Rattle.session.specs.declared.operations.Operation.the-variants as operation
-use Rattle.session.specs.declared.operations.Writer.the-variants as writer
+use Rattle.words.specs.Fields.{nameIn, repositoryIn, schemaIn, typeIn, modelIn}
+use Rattle.words.specs.Entries.{wordOf}
+use Rattle.tables.specs.View.{isLive, setAt, isSet, valueAt}
 use Rattle.session.specs.Refusals.{done}
 use Rattle.session.specs.Operations.{operationOf}
 use Rattle.session.specs.Rows.{refusalOf}
 use Rattle.session.specs.Step.{Outcome}
-use Rattle.session.specs.Runs.{Call, Chip, outcomeOf}
+use Rattle.session.specs.Runs.{Call, Answered, Chip, outcomeOf}
 use Rattle.history.specs.Live.{Live, Member, SetTo}
 
--- a table holds what these changes make live, set and a member, and nothing else
-pub record Tells (t : List ℕ) (r : List Change) : Type 0 where
-  pub models : (n label : ℕ) → Live Model n label r ↔ ((isLive t Model n ≡ true) × (labelAt t Model n ≡ label))
-  pub groups : (n label : ℕ) → Live SchemaInstance n label r ↔ ((isLive t SchemaInstance n ≡ true) × (labelAt t SchemaInstance n ≡ label))
-  pub instances : (n header : ℕ) → Live Instance n header r ↔ ((isLive t Instance n ≡ true) × (headerOf (typeAt t n) (modelAt t n) 0 ≡ header))
-  pub attributes : (i k v : ℕ) → SetTo i k v r ↔ ((isSet t i k ≡ true) × (valueAt t i k ≡ v))
-  pub members : (s m : ℕ) → Member s m r ↔ (has (setAt t s) m ≡ true)
+-- an entry's first word holds what its creation asked for: repository, schema and name; model and type
+abbrev pub Asked : Kind → ℕ → Call → Type 0
+Asked Model w q = (repositoryIn w ≡ q .a) × (schemaIn w ≡ q .b) × (nameIn w ≡ q .c)
+Asked SchemaInstance w q = (repositoryIn w ≡ q .a) × (schemaIn w ≡ q .b) × (nameIn w ≡ q .c)
+Asked Instance w q = (modelIn w ≡ q .a) × (typeIn w ≡ q .b)
+
+-- a table holds what these calls make live, a member and set, and (`nothing-else`) nothing besides
+pub record Tells (t : List ℕ) (h : List Answered) : Type 0 where
+  pub live : (kind : Kind) (n : ℕ) → ((q : Call) × Live kind n q h) ↔ (isLive t kind n ≡ true)
+  pub asked : (kind : Kind) (n : ℕ) (q : Call) → Live kind n q h → Asked kind (wordOf t kind n 0) q
+  pub members : (s m : ℕ) → Member s m h ↔ (has (setAt t s) m ≡ true)
+  pub attributes : (i k v : ℕ) → SetTo i k v h ↔ ((isSet t i k ≡ true) × (valueAt t i k ≡ v))
+
+-- the last place of each table
+abbrev pub lastOf : Kind → ℕ
+lastOf kind = countOf kind - 1
+
+-- the live entries so counted fill the table of their kind
+unfoldable pub Full : Kind → List Answered → Type 0
+Full kind h = (n : ℕ) → n < countOf kind → (q : Call) × Live kind n q h
 
 -- the creation and the deletion of each kind
-abbrev pub creationOf : Kind → Operation
-creationOf Model = operation.Writer writer.CreateModel
-creationOf SchemaInstance = operation.Writer writer.CreateSchemaInstance
-creationOf Instance = operation.Writer writer.CreateInstance
+abbrev pub creationOf : Kind → ℕ
+creationOf Model = 20
+creationOf SchemaInstance = 30
+creationOf Instance = 40
 
-abbrev pub deletionOf : Kind → Operation
-deletionOf Model = operation.Writer writer.DeleteModel
-deletionOf SchemaInstance = operation.Writer writer.DeleteSchemaInstance
-deletionOf Instance = operation.Writer writer.DeleteInstance
+abbrev pub deletionOf : Kind → ℕ
+deletionOf Model = 21
+deletionOf SchemaInstance = 31
+deletionOf Instance = 41
 
--- a creation that "passes its other checks": all but NO_ROOM
+-- a creation that passes all checks but NO_ROOM
 pub record Creates (kind : Kind) (chip : Chip) (q : Call) : Type 0 where
-  pub operation : operationOf (q .op) ≡ creationOf kind
+  pub operation : q .op ≡ creationOf kind
   pub passes : refusalOf (operationOf (q .op)) (q .a) (q .b) (q .c) (chip .session .state) (chip .working) ≡ done
 
 -- a creation that is done, and whose value is n
@@ -52,10 +62,6 @@ pub record Takes (n : ℕ) (o : Outcome) : Type 0 where
 
 -- a deletion of entry n that is done
 pub record Deletes (kind : Kind) (n : ℕ) (chip : Chip) (q : Call) : Type 0 where
-  pub operation : operationOf (q .op) ≡ deletionOf kind
+  pub operation : q .op ≡ deletionOf kind
   pub number : q .a ≡ n
   pub was-done : outcomeOf chip q .answer .refusal ≡ done
-
--- the last place of each table
-abbrev pub lastOf : Kind → ℕ
-lastOf kind = countOf kind - 1

@@ -3,3 +3,4 @@ pub mod Live
 pub mod Demand3
 pub mod Proofs
 pub mod Theorems
+pub mod Example

@@ -1,4 +1,6 @@
 -- What demand 3's theorems rest on.
+pub mod Saying
+pub mod Reading
 pub mod Since
 pub mod Told
 pub mod Made
@@ -11,3 +13,4 @@ pub mod Speaking
 pub mod Kept
 pub mod Room
 pub mod Places
+pub mod Whole

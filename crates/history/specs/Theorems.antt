@@ -6,30 +6,48 @@ use mathlib.Core.Logic.{_↔_}
 use mathlib.Core.List.{List, _∷_}
 use Rattle.words.specs.declared.layout.Kind.{Kind}
 use Rattle.words.specs.Layout.{countOf}
+use Rattle.words.specs.Copies.{agree}
 use Rattle.tables.specs.View.{isLive}
+use Rattle.tables.specs.Sound.{soundTable}
 use Rattle.session.specs.Refusals.{NO-ROOM}
-use Rattle.session.specs.Runs.{Call, Chip, Fresh, outcomeOf, after, history}
-use Rattle.history.specs.Remains.{dropped, remainingIf, remaining}
-use Rattle.history.specs.Live.{Full}
-use Rattle.history.specs.Demand3.{Tells, Creates, Takes, Deletes, lastOf}
+use Rattle.session.specs.Sound.{sound}
+use Rattle.session.specs.Runs.{Call, Answered, Chip, Fresh, outcomeOf, after, history}
+use Rattle.promises.specs.Keeps.Facts.{table-test}
+use Rattle.promises.specs.Reached.{reached-sound}
+use Rattle.history.specs.Remains.{remainingIf, remaining}
+use Rattle.history.specs.Demand3.{Full, Tells, creationOf, Creates, Takes, Deletes, lastOf}
 use Rattle.history.specs.Proofs.Told.{tells-of}
 use Rattle.history.specs.Proofs.Kept.{holds}
-use Rattle.history.specs.Proofs.Places.{last-below, refused-when-full, takes-free-place, live-when-full, freed-is-found}
+use Rattle.history.specs.Proofs.Places.{last-below, refused-when-full, full-when-refused, takes-free-place, live-when-full, freed-is-found}
+use Rattle.history.specs.Proofs.Whole.{told-alike}
+
+-- **And nothing else: what a sound table tells leaves no word open.** Two that tell the same agree in the words in use.
+pub nothing-else : (t u : List ℕ) (h : List Answered) → soundTable t ≡ true → soundTable u ≡ true → Tells t h → Tells u h → agree t u ≡ true
+nothing-else t u h st su a b = told-alike t u (table-test t .holds st) (table-test u .holds su) h a b
 
 module _ (begun : Chip) (fresh : Fresh begun) (calls : List Call) where
-  -- **The working table holds what the remaining changes make live, set and a member, and nothing else.**
+  -- **The working table holds what the calls that remain make live, a member and set, and what they asked for.**
   pub tells : Tells (after begun calls .working) (remaining (history begun calls))
   unfolding remaining
   tells = tells-of (after begun calls .working) (remaining (history begun calls)) (holds begun fresh calls .working)
 
-  -- **The kept table holds what would remain if all that is pending were dropped.**
-  pub kept-tells : Tells (after begun calls .kept) (remainingIf (history begun calls) dropped)
-  kept-tells = tells-of (after begun calls .kept) (remainingIf (history begun calls) dropped) (holds begun fresh calls .kept)
+  -- **The kept table holds what would remain if all that no commit follows were dropped.**
+  pub kept-tells : Tells (after begun calls .kept) (remainingIf (history begun calls) true)
+  kept-tells = tells-of (after begun calls .kept) (remainingIf (history begun calls) true) (holds begun fresh calls .kept)
+
+  -- **The chip is sound**, so `nothing-else` is about its tables.
+  pub stays-sound : sound (after begun calls .session) (after begun calls .working) (after begun calls .kept) ≡ true
+  stays-sound = reached-sound begun fresh calls
 
   -- **A creation that passes its other checks is refused with NO_ROOM exactly if the live entries so counted fill its table.**
   pub no-room : (kind : Kind) (q : Call) → Creates kind (after begun calls) q
       → (outcomeOf (after begun calls) q .answer .refusal ≡ NO-ROOM) ↔ Full kind (remaining (history begun calls))
   no-room kind q h = refused-when-full begun fresh calls kind q h
+
+  -- **By the answer alone: a creation that is answered NO_ROOM found its table full.**
+  pub no-room-answered : (kind : Kind) (q : Call) → q .op ≡ creationOf kind → outcomeOf (after begun calls) q .answer .refusal ≡ NO-ROOM
+      → Full kind (remaining (history begun calls))
+  no-room-answered kind q o e = full-when-refused begun fresh calls kind q o e
 
   -- **The place that a deletion frees in a full table is the next one made**, whichever it is.
   pub freed-place : (kind : Kind) (n : ℕ) → n < countOf kind → Full kind (remaining (history begun calls))

@@ -1,5 +1,4 @@
 -- What the theorems rest on: soundness as statements, the ways that a call goes, and that each change of a table keeps it sound.
-pub mod Range
 pub mod Passed
 pub mod Ways
 pub mod Facts
@@ -18,3 +17,4 @@ pub mod Sessions
 pub mod Access
 pub mod Changed
 pub mod Done
+pub mod Alike

@@ -3,7 +3,9 @@ pub mod Fresh
 pub mod Stays
 pub mod Reached
 pub mod Core
+pub mod Beyond
 pub mod Keeps
 pub mod Records
-pub mod Wrong
 pub mod Cases
+pub mod Possible
+pub mod Wrong

@@ -1,5 +1,5 @@
--- "A refusal returns value 0 and changes no table word. If the session is open and recording, an event is added ..; SY_ERR
--- adds none and returns the session as given."
+-- What a refusal leaves (CHIP, refusals): value 0, both tables as they were, and the session with one event more where
+-- it records; SY_ERR the session as it came.
 use mathlib.Core.Path.{_≡_, refl}
 use mathlib.Core.Bool.{false, cond}
 use mathlib.Core.List.{List}
@@ -11,7 +11,7 @@ use Rattle.session.specs.declared.state.Session.{Session}
 use Rattle.session.specs.Refusals.{SY-ERR, done}
 use Rattle.session.specs.States.{noted}
 use Rattle.session.specs.Step.{Outcome, step}
-use Rattle.promises.specs.Keeps.Range.{Refusing}
+use Rattle.session.specs.Laws.Range.{Refusing}
 use Rattle.promises.specs.Keeps.Ways.{Way, unsound, refusing, doing, way}
 
 pub record LeftAlone (op : ℕ) (x : Session) (w k : List ℕ) (o : Outcome) : Type 0 where

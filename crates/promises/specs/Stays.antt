@@ -8,7 +8,7 @@ use Rattle.session.specs.Operations.{operationOf}
 use Rattle.session.specs.Sound.{sound}
 use Rattle.session.specs.Step.{Outcome, step}
 use Rattle.logic.specs.Laws.Bools.{clash}
-use Rattle.promises.specs.Keeps.Range.{passed}
+use Rattle.session.specs.Laws.Range.{passed}
 use Rattle.promises.specs.Keeps.SessionFacts.{sound-test}
 use Rattle.promises.specs.Keeps.Ways.{Way, unsound, refusing, doing, way}
 use Rattle.promises.specs.Keeps.Log.{noted-sound}

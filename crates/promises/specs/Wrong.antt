@@ -1,11 +1,13 @@
--- Document 01's wrong libraries: none of them meets the contract of `call`, each shown at a call where it fails.
+-- Document 01's wrong libraries: none of them meets the contract of `call`, each shown at a call where it fails. All is about
+-- what a machine can be asked: what a library does elsewhere nobody can see.
 use mathlib.Core.Path.{_≡_, refl, sym, ap, _∙_}
-use mathlib.Core.Bool.{true}
-use mathlib.Core.List.{List, [], _∷_, reverse}
+use mathlib.Core.Bool.{Bool, true, _&&_}
+use mathlib.Core.List.{List, [], _∷_, _++_, reverse}
 use Prim.Native.Nat.{ℕ}
 use native.Mathlib.Omega.{arith}
 use lib.ListN.{getD, drop}
-use Rattle.logic.specs.Search.{firstFrom, allB, anyB, keptFrom}
+use Rattle.logic.specs.Search.{firstFrom, allB, anyB, allIn, keptFrom}
+use Rattle.logic.specs.Laws.Bools.{and-left, and-right}
 use Rattle.words.specs.Sets.{insert, remove, members, sizeOf}
 use Rattle.words.specs.Entries.{filled, nextFree}
 use Rattle.dictionary.specs.Dictionary.{the-table}
@@ -18,40 +20,58 @@ use Rattle.session.specs.States.{isOpen}
 use Rattle.session.specs.Checks.{firstOf}
 use Rattle.session.specs.Rows.{refusalOf}
 use Rattle.session.specs.Step.{Outcome, core}
-use Rattle.session.specs.Runs.{Call, call, Answered, Chip, freshTable, freshChip, Machine, outcomeBy, left, afterBy, historyBy, outcomeOf}
+use Rattle.session.specs.Runs.{Call, call, Answered, Chip, freshTable, freshChip, Machine, outcomeBy, left, answeredBy, afterBy, historyBy, outcomeOf}
 use Rattle.promises.specs.Fresh.{fresh-chip}
-use Rattle.promises.specs.Reached.{core-alike, reached-sound, same-history}
+use Rattle.promises.specs.Reached.{SoundChip, core-alike, reached-sound, same-after, same-history}
+use Rattle.promises.specs.Possible.{possible, possibleBy}
 use Rattle.promises.specs.Keeps.Ways.{Way, unsound, refusing, doing, way}
-use Rattle.promises.specs.Records.{_gives_, asked, AsGiven, computed, tenRecords, ten-records}
+use Rattle.promises.specs.Records.{_gives_, asked, AsGiven, computed, tenRecords}
+use Rattle.promises.specs.Cases.{p-cases}
 
 -- what stands in the place of `call` meets its contract
 abbrev pub Meets : Machine → Type 0
-Meets library = (chip : Chip) (q : Call) → outcomeBy library chip q ≡ outcomeOf chip q
+Meets library = (chip : Chip) (q : Call) → possible chip q ≡ true → outcomeBy library chip q ≡ outcomeOf chip q
 
 -- ---- the wrong ones
 
 -- it refuses everything
 abbrev pub RefusesAll : Machine → Type 0
-RefusesAll library = (chip : Chip) (q : Call) → outcomeBy library chip q .answer .refusal ≡ done → ⊥
+RefusesAll library = (chip : Chip) (q : Call) → possible chip q ≡ true → outcomeBy library chip q .answer .refusal ≡ done → ⊥
 
 -- it gives one answer to all
 abbrev pub Constant : Machine → Type 0
-Constant library = (refusal : ℕ) × ((chip : Chip) (q : Call) → outcomeBy library chip q .answer .refusal ≡ refusal)
+Constant library = (refusal : ℕ) × ((chip : Chip) (q : Call) → possible chip q ≡ true → outcomeBy library chip q .answer .refusal ≡ refusal)
 
 -- it touches no table
 abbrev pub NoTable : Machine → Type 0
-NoTable library = (chip : Chip) (q : Call) → outcomeBy library chip q .working ≡ chip .working
+NoTable library = (chip : Chip) (q : Call) → possible chip q ≡ true → outcomeBy library chip q .working ≡ chip .working
 
--- it honours the first operation, which opens a session, and then only answers
+-- it honours the first operation, which opens a session, and then only answers: whatever becomes of the session
 abbrev pub OnlyAnswers : Machine → Type 0
-OnlyAnswers library = (chip : Chip) (q : Call) → isOpen (chip .session .state) ≡ true → left (outcomeBy library chip q) ≡ chip
+OnlyAnswers library = (chip : Chip) (q : Call) → possible chip q ≡ true → isOpen (chip .session .state) ≡ true
+    → outcomeBy library chip q .working ≡ chip .working
 
--- it answers a done 32 or 33 with something else than the number of models then in the set
+-- it invents the set size, once: to one 32 or 33 it answers done and another value than the number of models then in the set
+pub record InventsASize (op : ℕ) (become : ℕ → ℕ → ℕ) (library : Machine) : Type 0 where
+  pub chip : Chip
+  pub a : ℕ
+  pub b : ℕ
+  pub c : ℕ
+  pub asks : possible chip (call op a b c) ≡ true
+  pub was-done : outcomeBy library chip (call op a b c) .answer .refusal ≡ done
+  pub other : outcomeBy library chip (call op a b c) .answer .value ≡ sizeOf (become (setAt (chip .working) a) b) → ⊥
+
+-- it invents it always
 abbrev pub InventsSizes : ℕ → (ℕ → ℕ → ℕ) → Machine → Type 0
-InventsSizes op become library = (chip : Chip) (a b c : ℕ) → outcomeBy library chip (call op a b c) .answer .refusal ≡ done
+InventsSizes op become library = (chip : Chip) (a b c : ℕ) → possible chip (call op a b c) ≡ true
+    → outcomeBy library chip (call op a b c) .answer .refusal ≡ done
     → outcomeBy library chip (call op a b c) .answer .value ≡ sizeOf (become (setAt (chip .working) a) b) → ⊥
 
--- ---- none of them meets it
+-- ---- runs
+
+-- every call of a run by `core` is one that a machine can be asked
+abbrev possibleRun : List Call → Bool
+possibleRun calls = possibleBy core freshChip calls
 
 -- the answer to the call that n others follow
 back : List Answered → ℕ → Answered
@@ -59,6 +79,58 @@ back h n = getD h n (call 0 0 0 0 gives (0, 0))
 
 abbrev tenCalls : List Call
 tenCalls = asked (reverse tenRecords)
+
+ten-possible : possibleRun tenCalls ≡ true
+unfolding possibleBy possible allIn asked freshTable afterBy core operationOf lookup listed refusalOf firstOf firstFrom allB anyB filled nextFree apply the-table
+ten-possible = refl
+
+-- seven calls, the last two of which add a model to a set and take it out
+abbrev sevenRecords : List Answered
+sevenRecords =
+    call 1 0 0 0 gives (0, 0)
+    ∷ call 3 0 0 0 gives (0, 0)
+    ∷ call 5 0 0 0 gives (0, 0)
+    ∷ call 20 0 1 7 gives (0, 0)
+    ∷ call 30 0 1 7 gives (0, 0)
+    ∷ call 32 0 0 0 gives (0, 1)
+    ∷ call 33 0 0 0 gives (0, 0)
+    ∷ []
+
+abbrev sevenCalls : List Call
+sevenCalls = asked (reverse sevenRecords)
+
+seven-records : AsGiven sevenRecords
+unfolding asked freshTable afterBy historyBy core operationOf lookup listed refusalOf firstOf firstFrom allB anyB filled nextFree apply members keptFrom the-table
+seven-records = computed _ refl
+
+seven-possible : possibleRun sevenCalls ≡ true
+unfolding possibleBy possible allIn asked freshTable afterBy core operationOf lookup listed refusalOf firstOf firstFrom allB anyB filled nextFree apply members keptFrom the-table
+seven-possible = refl
+
+-- after the first of the ten the session is open at each of the next six
+abbrev first : List Call
+first = call 1 0 0 0 ∷ []
+
+unfoldable openRun : List Call → Bool
+openRun [] = true
+openRun (q ∷ calls) = openRun calls && isOpen (afterBy core freshChip (calls ++ first) .session .state)
+
+abbrev nextSix : List Call
+nextSix = asked (drop 3 (reverse (drop 1 tenRecords)))
+
+six-open : openRun nextSix ≡ true
+unfolding openRun asked freshTable afterBy core operationOf lookup listed refusalOf firstOf firstFrom allB anyB filled nextFree apply the-table
+six-open = refl
+
+first-possible : possibleRun first ≡ true
+unfolding possibleBy possible allIn freshTable afterBy
+first-possible = refl
+
+first-leaves : afterBy core freshChip first .working ≡ freshTable
+unfolding afterBy core operationOf lookup listed refusalOf firstOf
+first-leaves = refl
+
+-- ---- what `step` gives
 
 -- a get on a blank table gives no value, whatever the session
 blank-value : (x : Session) (k : List ℕ) (o : Outcome) → Way 42 0 0 0 x freshTable k o → o .answer .value ≡ 0
@@ -80,109 +152,126 @@ left-size a b c x w k o (unsound h) d = absurd (omega arith)
 left-size a b c x w k o (refusing r h e) d = absurd (omega (arith, e .from))
 left-size a b c x w k o (doing h p e) d = refl
 
--- seven calls, the last two of which add a model to a set and take it out
-abbrev sevenRecords : List Answered
-sevenRecords =
-    call 1 0 0 0 gives (0, 0)
-    ∷ call 3 0 0 0 gives (0, 0)
-    ∷ call 5 0 0 0 gives (0, 0)
-    ∷ call 20 0 1 7 gives (0, 0)
-    ∷ call 30 0 1 7 gives (0, 0)
-    ∷ call 32 0 0 0 gives (0, 1)
-    ∷ call 33 0 0 0 gives (0, 0)
-    ∷ []
-
-seven-records : AsGiven sevenRecords
-unfolding asked freshTable afterBy historyBy core operationOf lookup listed refusalOf firstOf firstFrom allB anyB filled nextFree apply members keptFrom the-table
-seven-records = computed _ refl
+-- ---- none of them meets it
 
 module _ (library : Machine) (meets : Meets library) where
-  -- its answers to calls from fresh are those of `step`
-  as-given : (rows : List Answered) → AsGiven rows → historyBy library freshChip (asked (reverse rows)) ≡ reverse rows
-  as-given rows e = same-history freshChip fresh-chip library (λ chip s q. meets chip q) (asked (reverse rows)) ∙ e
+  core-sound : (calls : List Call) → SoundChip (afterBy core freshChip calls)
+  core-sound calls = rw (same-after freshChip fresh-chip core core-alike calls) (reached-sound freshChip fresh-chip calls)
+
+  -- on what `core` reaches it does what `core` does
+  as-core : (q : Call) (calls : List Call) → possibleRun (q ∷ calls) ≡ true → outcomeBy library (afterBy core freshChip calls) q ≡ outcomeBy core (afterBy core freshChip calls) q
+  unfolding possibleBy
+  as-core q calls p =
+      let chip = afterBy core freshChip calls in
+      meets chip q (and-right (possibleRun calls) (possible chip q) p) ∙ sym (core-alike chip (core-sound calls) q)
+
+  earlier : (q : Call) (calls : List Call) → possibleRun (q ∷ calls) ≡ true → possibleRun calls ≡ true
+  unfolding possibleBy
+  earlier q calls p = and-left (possibleRun calls) (possible (afterBy core freshChip calls) q) p
+
+  -- so its run is `core`'s
+  its-after : (calls : List Call) → possibleRun calls ≡ true → afterBy library freshChip calls ≡ afterBy core freshChip calls
+  unfolding afterBy
+  its-after [] p = refl
+  its-after (q ∷ calls) p = ap (λ (chip : Chip). left (outcomeBy library chip q)) (its-after calls (earlier q calls p)) ∙ ap left (as-core q calls p)
+
+  its-history : (calls : List Call) → possibleRun calls ≡ true → historyBy library freshChip calls ≡ historyBy core freshChip calls
+  unfolding historyBy
+  its-history [] p = refl
+  its-history (q ∷ calls) p =
+      ap (λ (o : Outcome). answeredBy q o ∷ historyBy library freshChip calls) (ap (λ (chip : Chip). outcomeBy library chip q) (its-after calls (earlier q calls p)) ∙ as-core q calls p)
+      ∙ ap (λ (h : List Answered). answeredBy q (outcomeBy core (afterBy core freshChip calls) q) ∷ h) (its-history calls (earlier q calls p))
+
+  as-given : (rows : List Answered) → AsGiven rows → possibleRun (asked (reverse rows)) ≡ true → historyBy library freshChip (asked (reverse rows)) ≡ reverse rows
+  as-given rows e p =
+      its-history (asked (reverse rows)) p ∙ same-history freshChip fresh-chip core core-alike (asked (reverse rows)) ∙ e freshChip fresh-chip
 
   ten : historyBy library freshChip tenCalls ≡ reverse tenRecords
-  ten = as-given tenRecords ten-records
+  ten = as-given tenRecords (p-cases .0) ten-possible
+
+  -- so each of its calls is one that a machine can be asked
+  here : (q : Call) (calls : List Call) → possibleRun (q ∷ calls) ≡ true → possible (afterBy library freshChip calls) q ≡ true
+  unfolding possibleBy
+  here q calls p = rw (its-after calls (earlier q calls p)) (and-right (possibleRun calls) (possible (afterBy core freshChip calls) q) p)
 
   pub not-refusing-all : RefusesAll library → ⊥
   unfolding asked historyBy afterBy back
-  not-refusing-all wrong = wrong freshChip (call 1 0 0 0) (ap (λ (h : List Answered). back h 9 .refusal) ten)
+  not-refusing-all wrong = wrong freshChip (call 1 0 0 0) (here (call 1 0 0 0) [] first-possible) (ap (λ (h : List Answered). back h 9 .refusal) ten)
 
   pub not-constant : Constant library → ⊥
   unfolding asked historyBy afterBy back
   not-constant wrong =
-      let first : 0 ≡ wrong .0 = sym (ap (λ (h : List Answered). back h 9 .refusal) ten) ∙ wrong .1 _ (call 1 0 0 0) in
-      let last : 27 ≡ wrong .0 = sym (ap (λ (h : List Answered). back h 0 .refusal) ten) ∙ wrong .1 _ (call 42 0 0 0) in
+      let first : 0 ≡ wrong .0 = sym (ap (λ (h : List Answered). back h 9 .refusal) ten) ∙ wrong .1 _ (call 1 0 0 0) (here (call 1 0 0 0) [] first-possible) in
+      let last : 27 ≡ wrong .0 = sym (ap (λ (h : List Answered). back h 0 .refusal) ten) ∙ wrong .1 _ (call 42 0 0 0) (here (call 42 0 0 0) (drop 1 tenCalls) ten-possible) in
       omega arith
 
-  stays-blank : NoTable library → (calls : List Call) → afterBy library freshChip calls .working ≡ freshTable
-  unfolding afterBy
-  stays-blank wrong [] = refl
-  stays-blank wrong (q ∷ calls) = wrong (afterBy library freshChip calls) q ∙ stays-blank wrong calls
+  -- calls after the first leave the blank table as it is
+  stays-blank : OnlyAnswers library → (calls : List Call) → possibleRun (calls ++ first) ≡ true → openRun calls ≡ true
+      → afterBy library freshChip (calls ++ first) .working ≡ freshTable
+  unfolding afterBy openRun
+  stays-blank wrong [] p o = ap (λ (chip : Chip). chip .working) (its-after first p) ∙ first-leaves
+  stays-blank wrong (q ∷ calls) p o =
+      let before = calls ++ first in
+      wrong (afterBy library freshChip before) q (here q before p)
+      (rw (its-after before (earlier q before p)) (and-right (openRun calls) (isOpen (afterBy core freshChip before .session .state)) o))
+      ∙ stays-blank wrong calls (earlier q before p) (and-left (openRun calls) (isOpen (afterBy core freshChip before .session .state)) o)
 
-  gets-nothing : (chip : Chip) → chip .working ≡ freshTable → outcomeBy library chip (call 42 0 0 0) .answer .value ≡ 0
-  gets-nothing chip e =
-      ap (λ (o : Outcome). o .answer .value) (meets chip (call 42 0 0 0))
+  gets-nothing : (chip : Chip) → possible chip (call 42 0 0 0) ≡ true → chip .working ≡ freshTable → outcomeBy library chip (call 42 0 0 0) .answer .value ≡ 0
+  gets-nothing chip p e =
+      ap (λ (o : Outcome). o .answer .value) (meets chip (call 42 0 0 0) p)
       ∙ rw e (blank-value (chip .session) (chip .kept) _ (way 42 0 0 0 (chip .session) freshTable (chip .kept)))
 
   -- with tables that nobody touches the eighth record cannot give 5
-  pub not-without-tables : NoTable library → ⊥
-  unfolding asked historyBy afterBy back
-  not-without-tables wrong =
-      let seven = drop 3 tenCalls in
-      let five : _≡_ {A = ℕ} 5 0 = sym (ap (λ (h : List Answered). back h 2 .value) ten) ∙ gets-nothing (afterBy library freshChip seven) (stays-blank wrong seven) in
-      omega arith
-
-  frozen : OnlyAnswers library → (chip : Chip) → isOpen (chip .session .state) ≡ true → (calls : List Call) → afterBy library chip calls ≡ chip
-  unfolding afterBy
-  frozen wrong chip h [] = refl
-  frozen wrong chip h (q ∷ calls) = ap (λ (x : Chip). left (outcomeBy library x q)) (frozen wrong chip h calls) ∙ wrong chip q h
-
-  opened : Chip
-  opened = left (outcomeBy library freshChip (call 1 0 0 0))
-
-  is-opened : isOpen (opened .session .state) ≡ true
-  unfolding opened afterBy core operationOf lookup listed refusalOf firstOf
-  is-opened =
-      ap
-      (λ (o : Outcome). isOpen (o .answer .session .state))
-      (meets freshChip (call 1 0 0 0) ∙ sym (core-alike freshChip (reached-sound freshChip fresh-chip []) (call 1 0 0 0)))
-
-  gets-the-same : OnlyAnswers library → (calls : List Call)
-      → outcomeBy library (afterBy library opened calls) (call 42 0 0 0) .answer .refusal ≡ outcomeBy library opened (call 42 0 0 0) .answer .refusal
-  gets-the-same wrong calls = ap (λ (chip : Chip). outcomeBy library chip (call 42 0 0 0) .answer .refusal) (frozen wrong opened is-opened calls)
-
-  -- the eighth record and the tenth are one call, so it answers them alike
   pub not-only-answering : OnlyAnswers library → ⊥
-  unfolding opened asked historyBy afterBy back
+  unfolding asked historyBy afterBy back
   not-only-answering wrong =
-      let get = outcomeBy library opened (call 42 0 0 0) .answer .refusal in
-      let eighth : 0 ≡ get = sym (ap (λ (h : List Answered). back h 2 .refusal) ten) ∙ gets-the-same wrong (asked (drop 3 (reverse (drop 1 tenRecords)))) in
-      let tenth : 27 ≡ get = sym (ap (λ (h : List Answered). back h 0 .refusal) ten) ∙ gets-the-same wrong (asked (drop 1 (reverse (drop 1 tenRecords)))) in
+      let seven = nextSix ++ first in
+      let asks = earlier _ _ (earlier _ _ ten-possible) in
+      let blank = stays-blank wrong nextSix (earlier _ seven asks) six-open in
+      let five : _≡_ {A = ℕ} 5 0 = sym (ap (λ (h : List Answered). back h 2 .value) ten) ∙ gets-nothing (afterBy library freshChip seven) (here _ seven asks) blank in
       omega arith
 
-  seven : historyBy library freshChip (asked (reverse sevenRecords)) ≡ reverse sevenRecords
-  seven = as-given sevenRecords seven-records
+  pub not-without-tables : NoTable library → ⊥
+  not-without-tables wrong = not-only-answering (λ chip q p opened. wrong chip q p)
 
   -- where the answer is done, its value is what `step` gives
-  given : (chip : Chip) (q : Call) (n : ℕ)
+  given : (chip : Chip) (q : Call) (n : ℕ) → possible chip q ≡ true
       → ((o : Outcome) → Way (q .op) (q .a) (q .b) (q .c) (chip .session) (chip .working) (chip .kept) o → o .answer .refusal ≡ done → o .answer .value ≡ n)
       → outcomeBy library chip q .answer .refusal ≡ done → outcomeBy library chip q .answer .value ≡ n
-  given chip q n f d =
-      let e = meets chip q in
+  given chip q n p f d =
+      let e = meets chip q p in
       ap (λ (o : Outcome). o .answer .value) e
       ∙ f _ (way (q .op) (q .a) (q .b) (q .c) (chip .session) (chip .working) (chip .kept)) (sym (ap (λ (o : Outcome). o .answer .refusal) e) ∙ d)
+
+  pub not-inventing-a-size : InventsASize 32 insert library → ⊥
+  not-inventing-a-size wrong =
+      let chip = wrong .chip in
+      wrong .other
+      (given chip (call 32 (wrong .a) (wrong .b) (wrong .c)) _ (wrong .asks) (joined-size (wrong .a) (wrong .b) _ (chip .session) (chip .working) (chip .kept)) (wrong .was-done))
+
+  pub not-inventing-a-size-left : InventsASize 33 remove library → ⊥
+  not-inventing-a-size-left wrong =
+      let chip = wrong .chip in
+      wrong .other
+      (given chip (call 33 (wrong .a) (wrong .b) (wrong .c)) _ (wrong .asks) (left-size (wrong .a) (wrong .b) _ (chip .session) (chip .working) (chip .kept)) (wrong .was-done))
+
+  seven : historyBy library freshChip sevenCalls ≡ reverse sevenRecords
+  seven = as-given sevenRecords seven-records seven-possible
+
+  -- there is a done 32 and a done 33, so who always invents invents once
+  once : (op : ℕ) (become : ℕ → ℕ → ℕ) (calls : List Call) → InventsSizes op become library → possibleRun (call op 0 0 0 ∷ calls) ≡ true
+      → outcomeBy library (afterBy library freshChip calls) (call op 0 0 0) .answer .refusal ≡ done → InventsASize op become library
+  once op become calls wrong p d =
+      let chip = afterBy library freshChip calls in
+      let asks = here (call op 0 0 0) calls p in
+      record { chip = chip; a = 0; b = 0; c = 0; asks = asks; was-done = d; other = wrong chip 0 0 0 asks d }
 
   pub not-inventing-sizes : InventsSizes 32 insert library → ⊥
   unfolding asked historyBy afterBy back
   not-inventing-sizes wrong =
-      let chip = afterBy library freshChip (asked (drop 2 (reverse sevenRecords))) in
-      let done-here : outcomeBy library chip (call 32 0 0 0) .answer .refusal ≡ done = ap (λ (h : List Answered). back h 1 .refusal) seven in
-      wrong chip 0 0 0 done-here (given chip (call 32 0 0 0) _ (joined-size 0 0 0 (chip .session) (chip .working) (chip .kept)) done-here)
+      not-inventing-a-size (once 32 insert (drop 2 sevenCalls) wrong (earlier _ _ seven-possible) (ap (λ (h : List Answered). back h 1 .refusal) seven))
 
   pub not-inventing-sizes-left : InventsSizes 33 remove library → ⊥
   unfolding asked historyBy afterBy back
   not-inventing-sizes-left wrong =
-      let chip = afterBy library freshChip (asked (drop 1 (reverse sevenRecords))) in
-      let done-here : outcomeBy library chip (call 33 0 0 0) .answer .refusal ≡ done = ap (λ (h : List Answered). back h 0 .refusal) seven in
-      wrong chip 0 0 0 done-here (given chip (call 33 0 0 0) _ (left-size 0 0 0 (chip .session) (chip .working) (chip .kept)) done-here)
+      not-inventing-a-size-left (once 33 remove (drop 1 sevenCalls) wrong seven-possible (ap (λ (h : List Answered). back h 0 .refusal) seven))

@@ -1,6 +1,6 @@
 -- What a run of bytes does, record by record.
 use Prim.Native.Nat.{ℕ, zero, suc, _+_, _*_, _≤_, _<_}
-use mathlib.Core.Bool.{Bool, true, false, cond, _&&_}
+use mathlib.Core.Bool.{Bool, true, false, cond}
 use mathlib.Core.List.{List, [], _∷_, _++_}
 use lib.ListN.{length, take, drop}
 use Rattle.records.specs.declared.decoding.Record.{Record}
@@ -51,7 +51,7 @@ pub record Moved (start run : Run) : Type 0 where
   pub short : run .at ≤ start .at + lineRoom
   pub one : run .done ≤ start .done + 1
 
--- "For each record one line: its count from 1, operation, refusal, value"
+-- a record was done: its line, counted from 1
 abbrev pub afterCall : ℕ → Outcome → Here → Here
 afterCall op o x =
     record {
@@ -70,7 +70,7 @@ afterRecord r x = afterCall (r .op) (core (r .op) (r .a) (r .b) (r .c) (x .sessi
 abbrev pub stopped : List ℕ → Here → Here
 stopped line x = record { session = x .session; working = x .working; kept = x .kept; done = x .done; on = false; text = x .text ++ line }
 
--- "At a wrong mark or a cut record the line `bad N` with its count, and the program stops"
+-- a bad record: its count is one more than the records done
 abbrev pub afterBad : Here → Here
 afterBad x = stopped (badText (x .done + 1)) x
 
@@ -78,11 +78,11 @@ abbrev pub afterFound : Found → Here → Here
 afterFound (Whole r) x = afterRecord r x
 afterFound Bad x = afterBad x
 
--- "at a proper end, `end N` with the records done": the input is over, and no record of it was bad
-abbrev pub afterEnd : Bool → Here → Here
-afterEnd over x = cond (x .on && over) (stopped (endText (x .done)) x) x
+-- "a proper end": the input is over, and no record of it was bad
+abbrev pub afterEnd : Here → Here
+afterEnd x = cond (x .on) (stopped (endText (x .done)) x) x
 
--- at most k records of the bytes, "each taken from where it begins"
+-- at most k records of the bytes, each from where it begins
 unfoldable pub afterRecords : ℕ → List ℕ → Here → Here
 afterRecords zero bytes x = x
 afterRecords (suc k) [] x = x
@@ -94,7 +94,7 @@ afterRecords (suc k) (b ∷ bytes) x =
 abbrev pub afterBytes : List ℕ → Here → Here
 afterBytes bytes x = afterRecords (length bytes) bytes x
 
--- "The start is fresh"
+-- the start
 abbrev pub freshRun : Run
 freshRun = record { session = freshSession; done = 0; at = 0; on = true }
 

@@ -1,3 +1,4 @@
 pub mod Blocks
 pub mod Printed
+pub mod Reads
 pub mod Laws

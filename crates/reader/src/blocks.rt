@@ -1,5 +1,4 @@
-// The records of one block, each taken from where it begins in the block. A block is a whole number of records, so none
-// is split between two.
+// The records at the start of a block, each taken from where it begins in the block.
 ghost use mathlib.Core.Path.{_≡_};
 ghost use Prim.Native.Nat.{ℕ, _≤_, _<_, _+_, _*_};
 ghost use mathlib.Core.List.{List};
@@ -54,7 +53,8 @@ pub fn fresh() -> Run
 // A record that is whole: the call, and its line.
 fn answered(start: Run, rec: Record, out: &mut [u8], working: &mut [u64], kept: &mut [u64]) -> Run
     requires { ⌜ Room start (now out) ⌝ }
-    ensures { λ r. ⌜ (here r (now (out .exit)) (now (working .exit)) (now (kept .exit)) ≡ afterRecord rec (here start (now (out .entry)) (now (working .entry)) (now (kept .entry)))) × Moved start r ⌝ }
+    ensures { λ r. ⌜ (here r (now (out .exit)) (now (working .exit)) (now (kept .exit))
+        ≡ afterRecord rec (here start (now (out .entry)) (now (working .entry)) (now (kept .entry)))) × Moved start r ⌝ }
 {
     let session = start.session;
     let answer = core(rec.op, rec.a, rec.b, rec.c, session, working, kept);
@@ -86,7 +86,8 @@ fn refused(start: Run, out: &mut [u8]) -> Run
 // The record that a part of a block begins with.
 fn taken(start: Run, part: &[u8], out: &mut [u8], working: &mut [u64], kept: &mut [u64]) -> Run
     requires { ⌜ Room start (now out) ⌝ }
-    ensures { λ r. ⌜ (here r (now (out .exit)) (now (working .exit)) (now (kept .exit)) ≡ afterFound (recordOf (now (part .entry))) (here start (now (out .entry)) (now (working .entry)) (now (kept .entry)))) × Moved start r ⌝ }
+    ensures { λ r. ⌜ (here r (now (out .exit)) (now (working .exit)) (now (kept .exit))
+        ≡ afterFound (recordOf (now (part .entry))) (here start (now (out .entry)) (now (working .entry)) (now (kept .entry)))) × Moved start r ⌝ }
 {
     match decode(part) {
         Found::Whole(rec) => answered(start, rec, out, working, kept),
@@ -103,7 +104,9 @@ pub fn run_block(
     kept: &mut [u64],
 ) -> Run
     requires { ⌜ (got ≤ length (now block)) × (got ≤ blockSize) × (start .at + 4 * got + lineRoom ≤ length (now out)) × (start .done + blockRecords < 0x1_0000_0000_0000_0000) ⌝ }
-    ensures { λ r. ⌜ (here r (now (out .exit)) (now (working .exit)) (now (kept .exit)) ≡ afterBytes (take got (now (block .entry))) (here start (now (out .entry)) (now (working .entry)) (now (kept .entry)))) × (r .at ≤ start .at + 4 * got + lineRoom) × (r .done ≤ start .done + blockRecords) ⌝ }
+    ensures { λ r. ⌜ (here r (now (out .exit)) (now (working .exit)) (now (kept .exit))
+        ≡ afterBytes (take got (now (block .entry))) (here start (now (out .entry)) (now (working .entry)) (now (kept .entry))))
+        × (r .at ≤ start .at + 4 * got + lineRoom) × (r .done ≤ start .done + blockRecords) ⌝ }
 {
     let mut run = start;
     let mut from = 0;
@@ -118,11 +121,11 @@ pub fn run_block(
 }
 
 // At the end of the input: how many records were done.
-pub fn ended(start: Run, over: bool, out: &mut [u8]) -> Run
+pub fn ended(start: Run, out: &mut [u8]) -> Run
     requires { ⌜ start .at + lineRoom ≤ length (now out) ⌝ }
-    ensures { λ r. ⌜ ((w k : List ℕ) → here r (now (out .exit)) w k ≡ afterEnd over (here start (now (out .entry)) w k)) × (r .at ≤ start .at + lineRoom) × (r .done ≡ start .done) ⌝ }
+    ensures { λ r. ⌜ ((w k : List ℕ) → here r (now (out .exit)) w k ≡ afterEnd (here start (now (out .entry)) w k)) × (r .at ≤ start .at + lineRoom) × (r .done ≡ start .done) ⌝ }
 {
-    if start.on & over {
+    if start.on {
         let session = start.session;
         return Run {
             session,

@@ -1,4 +1,4 @@
--- Records and lines of document 01's example.
+-- Records and lines of the ten (CHIP, reader).
 use mathlib.Core.Path.{_≡_, refl}
 use mathlib.Core.List.{[], _∷_}
 use Rattle.records.specs.declared.decoding.Found.the-variants.{Whole, Bad}
@@ -13,12 +13,12 @@ create-model = refl
 pub cut : recordOf (0x53 ∷ 0x44 ∷ 20 ∷ 0 ∷ 0 ∷ 0 ∷ 0 ∷ 0 ∷ 1 ∷ 0 ∷ 0 ∷ 0 ∷ 7 ∷ 0 ∷ 0 ∷ []) ≡ Bad
 cut = refl
 
--- "10 42 27 0"
+-- the line of the tenth record
 pub tenth-line : lineText 10 42 27 0 ≡ 0x31 ∷ 0x30 ∷ 0x20 ∷ 0x34 ∷ 0x32 ∷ 0x20 ∷ 0x32 ∷ 0x37 ∷ 0x20 ∷ 0x30 ∷ 0x0a ∷ []
 unfolding decimalIn
 tenth-line = refl
 
--- "end 10"
+-- and the last one
 pub last-line : endText 10 ≡ 0x65 ∷ 0x6e ∷ 0x64 ∷ 0x20 ∷ 0x31 ∷ 0x30 ∷ 0x0a ∷ []
 unfolding decimalIn
 last-line = refl

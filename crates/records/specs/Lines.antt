@@ -32,7 +32,7 @@ lineFeed = 10
 abbrev pub ended : ℕ → ℕ → List ℕ
 ended n stop = decimal n ++ (stop ∷ [])
 
--- "one line: its count from 1, operation, refusal, value, split by one blank"
+-- the line of a record (CHIP, reader)
 abbrev pub lineText : ℕ → ℕ → ℕ → ℕ → List ℕ
 lineText n op refusal value = ended n blank ++ ended op blank ++ ended refusal blank ++ ended value lineFeed
 
@@ -40,11 +40,11 @@ lineText n op refusal value = ended n blank ++ ended op blank ++ ended refusal b
 abbrev pub lastText : ℕ → ℕ → ℕ → ℕ → List ℕ
 lastText x y z n = (x ∷ y ∷ z ∷ blank ∷ []) ++ ended n lineFeed
 
--- "the line `bad N`"
+-- `bad N`
 abbrev pub badText : ℕ → List ℕ
 badText n = lastText 98 97 100 n
 
--- "`end N`"
+-- `end N`
 abbrev pub endText : ℕ → List ℕ
 endText n = lastText 101 110 100 n
 

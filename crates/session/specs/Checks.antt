@@ -30,13 +30,9 @@ firstOf (check ∷ checks) =
     let later = firstOf checks in
     cond (check .condition) (check .refusal) later
 
--- a refusal, or done, that is known already, at the end of a list
-abbrev pub known : ℕ → List Check
-known n = true gives n ∷ []
-
 -- ---- what the conditions say
 
--- "RP_NEXS above 7", "RP_NOPN"
+-- RP_NEXS, RP_NOPN
 abbrev pub noRepository : ℕ → Bool
 noRepository r = leb repositories r
 
@@ -47,7 +43,7 @@ notOpened s r = not (has (s .repositories) r)
 abbrev pub away : State → ℕ → Bool
 away s label = notOpened s (repositoryIn label)
 
--- "above 63 or free", "above 15 or free", "above 127 or free": past the last entry a first word reads as 0 too
+-- MO_NEXS, SI_NEXS, EI_NEXS: past the last entry a first word reads as 0 too
 abbrev pub missing : ℕ → Bool
 missing first = isFree first
 
@@ -57,31 +53,31 @@ noWriting s m = not (has (s .rw) m)
 abbrev pub noAccess : State → ℕ → Bool
 noAccess s m = not (has (s .ro) m || has (s .rw) m)
 
--- "AT_NDEF": the type of a header has no attribute k
+-- AT_NDEF: the type of a header has no attribute k
 abbrev pub lacksAttribute : ℕ → ℕ → Bool
 lacksAttribute header k = lacks (attributeOf (typeIn header) k)
 
--- "MO_NDEQ schemas differ", of two labels
+-- MO_NDEQ, of two labels
 abbrev pub schemasDiffer : ℕ → ℕ → Bool
 schemasDiffer label other = not (eqb (schemaIn label) (schemaIn other))
 
--- "ED_NVLD type of another schema" than a model's label
+-- ED_NVLD: the schema of a type and that of a model's label
 abbrev pub typeForeign : ℕ → ℕ → Bool
 typeForeign t label = not (eqb (schemaOf t) (schemaIn label))
 
--- "ED_NDEQ": types of different schemas
+-- ED_NDEQ: types of different schemas
 abbrev pub typesDiffer : ℕ → ℕ → Bool
 typesDiffer t u = not (eqb (schemaOf t) (schemaOf u))
 
--- "VT_NVLD wrong type": a header neither of type `target` nor of a subtype
+-- VT_NVLD: a header neither of type `target` nor of a subtype
 abbrev pub wrongType : ℕ → ℕ → Bool
 wrongType header target = not (subtype (typeIn header) target)
 
--- "MO_NVLD .. target's model is neither the same nor in one set with it"
+-- MO_NVLD of 44: two models, and no set has both
 abbrev pub apart : List ℕ → ℕ → ℕ → Bool
 apart w m n = not (eqb m n || shareSet w m n)
 
--- ---- the gate, by family: "First for every call", and "for 20 to 45"
+-- ---- the gate, by family: what CHIP, operations, has before its table
 
 -- a session and a transaction are open, and then the rest
 abbrev pub transacted : State → List Check → List Check

@@ -16,7 +16,7 @@ use Rattle.session.specs.declared.effects.Effect.{Effect}
 use Rattle.session.specs.Refusals.{NO-ROOM, done}
 use Rattle.session.specs.States.{RW, under}
 
--- what becomes of the tables: nothing; "working is copied to kept"; "kept is copied to working"; working is changed
+-- what becomes of the tables: nothing; a commit copies working to kept, a drop kept to working; or working is changed
 abbrev pub workingAfter : Tables → List ℕ → List ℕ → List ℕ
 workingAfter Stay w k = w
 workingAfter Commit w k = w
@@ -32,7 +32,7 @@ keptAfter (Changed c) w k = k
 abbrev pub does : ℕ → State → Tables → Effect
 does value s tables = record { refusal = done; value = value; state = s; tables = tables }
 
--- "A refusal returns value 0 and changes no table word."
+-- a refusal (CHIP, refusals): value 0, and the tables stay
 abbrev pub refuses : ℕ → State → Effect
 refuses refusal s = record { refusal = refusal; value = 0; state = s; tables = Stay }
 
@@ -43,7 +43,7 @@ full s = refuses NO-ROOM s
 abbrev pub unlessRefused : ℕ → State → Effect → Effect
 unlessRefused refusal s e = cond (eqb refusal done) e (refuses refusal s)
 
--- "as abort" and "as 7" are said of RW alone
+-- what commits or drops does so only where a transaction writes
 abbrev pub ifWriting : State → Tables → Tables
 ifWriting s tables = cond (under s RW) tables Stay
 
@@ -51,7 +51,7 @@ abbrev pub number : Bool → ℕ
 number true = 1
 number false = 0
 
--- "A creation takes the lowest free number"; "value: its number"; "NO_ROOM every entry live"
+-- a creation: its value is the number that it took, and NO_ROOM where none is free
 abbrev pub created : Kind → ℕ → State → List ℕ → Effect
 created kind first s w =
     cond (ltb (nextFree w kind) (countOf kind))

@@ -3,3 +3,5 @@ pub mod Operations
 pub mod Checks
 pub mod Events
 pub mod Sound
+pub mod Range
+pub mod Answers

@@ -58,6 +58,6 @@ lookup n (row ∷ rows) =
     let later = lookup n rows in
     cond (eqb n (row .number)) (row .names) later
 
--- "FN_NAVL for an operation number not listed"
+-- a number that no row has is unlisted
 unfoldable pub operationOf : ℕ → Operation
 operationOf n = lookup n listed

@@ -1,2 +1,5 @@
--- What only the quick code asks for: a set gathered once. No promise is about it.
+-- What only the quick code asks for: a set gathered once, a log by itself, a row by itself. No promise is about it.
 pub mod Access
+pub mod Answers
+pub mod Events
+pub mod Rows

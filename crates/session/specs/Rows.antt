@@ -1,4 +1,4 @@
--- "Operations and the order of their checks": for each operation its refusals in the page's order, each with its condition,
+-- The table of CHIP, operations: for each operation its refusals in the page's order, each with its condition,
 -- and the effect when none of them is given.
 use Prim.Native.Nat.{ℕ}
 use mathlib.Core.Bool.{not}
@@ -31,7 +31,7 @@ use Rattle.session.specs.States.{NONE, RO, RW, ABORTED, under, withRecor
 use Rattle.session.specs.Checks.{Check, _gives_, firstOf, noRepository, notOpened, away, missing, noWriting, noAccess, lacksAttribute, schemasDiffer, typeForeign, typesDiffer, wrongType, apart, gate}
 use Rattle.session.specs.Effects.{does, unlessRefused, ifWriting, number, created}
 
--- "refusals" and "effect when done" of an operation
+-- the refusals of an operation, and its effect when done
 pub record Row : Type 0 where
   pub checks : List Check
   pub effect : Effect
@@ -83,7 +83,7 @@ sessionRow inSession.IsSubtype a b s =
 
 -- ---- those that ask for a transaction
 
--- 42 and 43, "EI_NEXS RP_NOPN MX_NDEF AT_NDEF", and then the rest
+-- 42 and 43, and then the rest
 abbrev pub reading : ℕ → ℕ → State → List ℕ → List Check → List Check
 reading header k s w rest =
     missing header gives EI-NEXS
@@ -104,7 +104,7 @@ readerRow reader.Test a b s w = reading (headerAt w a) b s w [] then does (numbe
 
 -- ---- those that ask for a transaction that writes
 
--- 20 and 30, "RP_NEXS RP_NOPN SD_NDEF" and the taken name
+-- 20 and 30; a taken name has a refusal of its own in each
 abbrev pub creating : Kind → ℕ → ℕ → ℕ → ℕ → State → List ℕ → List Check
 creating kind taken repository schema name s w =
     noRepository repository gives RP-NEXS
@@ -113,11 +113,11 @@ creating kind taken repository schema name s w =
     ∷ isTaken w kind repository name gives taken
     ∷ []
 
--- 44 and 45, "EI_NEXS MX_NRW AT_NDEF", and then the rest
+-- 44 and 45, and then the rest
 abbrev pub writing : ℕ → ℕ → State → List Check → List Check
 writing header k s rest = writable header EI-NEXS (modelIn header) s (lacksAttribute header k gives AT-NDEF ∷ rest)
 
--- 44, "R only: VA_NVLD VT_NVLD MO_NVLD": value v in an instance of model m
+-- 44, of R alone: value v in an instance of model m
 abbrev pub referring : Attribute → ℕ → ℕ → List ℕ → List Check
 referring Lacking m v w = []
 referring Whole m v w = []
@@ -170,9 +170,6 @@ effect o a b c s w = rowOf o a b c s w .effect
 unfoldable pub refusalOf : Operation → ℕ → ℕ → ℕ → State → List ℕ → ℕ
 refusalOf o a b c s w = firstOf (gate o s ++ checks o a b c s w)
 
--- what a row does by itself, and what a call does on a sound state: a refusal is the effect that does nothing
-abbrev pub rowDone : State → Row → Effect
-rowDone s row = unlessRefused (firstOf (row .checks)) s (row .effect)
-
+-- what a call does on a sound state: a refusal is the effect that does nothing
 abbrev pub performed : Operation → ℕ → ℕ → ℕ → State → List ℕ → Effect
 performed o a b c s w = unlessRefused (refusalOf o a b c s w) s (effect o a b c s w)

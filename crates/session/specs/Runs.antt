@@ -10,7 +10,7 @@ use Rattle.session.specs.declared.state.Session.{Session}
 use Rattle.session.specs.States.{closedState, blankLog, session}
 use Rattle.session.specs.Step.{Outcome, step}
 
--- "a, b, c (all u32)": that c is one has to be said, for it may be a name or a value, and these have fields of 32 bits
+-- that c is a u32 has to be said, for it may be a name or a value, and these have fields of 32 bits
 pub record Call : Type 0 where
   pub op : ℕ
   pub a : ℕ
@@ -34,7 +34,7 @@ pub record Chip : Type 0 where
   pub working : List ℕ
   pub kept : List ℕ
 
--- ---- "Fresh: all words 0, session closed"
+-- ---- fresh (CHIP, sound session): the session closed, the words in use 0
 
 abbrev pub freshSession : Session
 freshSession = session closedState blankLog

@@ -1,4 +1,4 @@
--- "A sound session", clause by clause, and what SY_ERR asks.
+-- A sound session (01), clause by clause, and what SY_ERR asks.
 use Prim.Native.Nat.{ℕ}
 use mathlib.Core.Bool.{Bool, true, cond, not, _&&_, _||_}
 use mathlib.Core.List.{List}
@@ -17,7 +17,7 @@ use Rattle.session.specs.declared.state.Session.{Session}
 use Rattle.session.specs.Refusals.{FN-NAVL, NO-ROOM}
 use Rattle.session.specs.States.{NONE, RO, RW, ABORTED, isOpen, under, places, blankEvent}
 
--- "at most 16 events (any operation number, a refusal from 2 to 32)"; "Unused event places .. are blank"
+-- an event may have any number, and any refusal but SY_ERR; a place that is not used is blank
 abbrev pub soundEvent : Event → Bool
 soundEvent e = leb FN-NAVL (e .refusal) && leb (e .refusal) NO-ROOM
 
@@ -33,7 +33,7 @@ soundPlaces count events = eqb (length events) places && allB places (λ i. soun
 unfoldable pub soundLog : Log → Bool
 soundLog l = leb (l .count) places && soundPlaces (l .count) (l .events)
 
--- "the sets of models with RO and with RW access. These sets share no model, name only live working models of open repositories"
+-- access is RO or RW and never both, and to live models of the working table whose repository is open
 abbrev pub mayAccess : List ℕ → State → ℕ → Bool
 mayAccess working s m = isLive working Model m && has (s .repositories) (repositoryIn (labelAt working Model m))
 
@@ -43,14 +43,14 @@ maySee working s m = not (has (s .ro) m && has (s .rw) m) && (not (has (s .ro) m
 unfoldable pub soundAccess : List ℕ → State → Bool
 soundAccess working s = allB bits (maySee working s)
 
--- "are empty under none and aborted, and RW access exists only under RW"
+-- RW access under RW alone, and none at all without a transaction or under an aborted one
 unfoldable pub soundTransaction : State → Bool
 soundTransaction s =
     leb (s .transaction) ABORTED
     && (under s RW || eqb (s .rw) none)
     && (under s RW || under s RO || eqb (s .ro) none)
 
--- "everything in a closed session" is blank
+-- a closed session is blank
 unfoldable pub soundOpen : Session → Bool
 soundOpen x =
     cond (isOpen (x .state))

@@ -10,7 +10,7 @@ use Rattle.session.specs.declared.state.Event.{Event}
 use Rattle.session.specs.declared.state.Log.{Log}
 use Rattle.session.specs.declared.state.Session.{Session}
 
--- "transaction none, RO, RW or aborted"
+-- the transaction
 abbrev pub NONE : ℕ
 NONE = 0
 
@@ -43,11 +43,11 @@ withRepositories s r = record { opened = s .opened; recording = s .recording; tr
 abbrev pub withAccess : State → ℕ → ℕ → State
 withAccess s ro rw = record { opened = s .opened; recording = s .recording; transaction = s .transaction; repositories = s .repositories; ro = ro; rw = rw }
 
--- "all access ends"
+-- all access ends
 abbrev pub ended : State → ℕ → State
 ended s transaction = withTransaction (withAccess s none none) transaction
 
--- "everything in a closed session" is blank; an open one begins with "recording on, no events"
+-- a closed session is blank (CHIP, sound session); an open one begins with recording on
 abbrev pub closedState : State
 closedState = record { opened = 0; recording = 0; transaction = NONE; repositories = none; ro = none; rw = none }
 
@@ -56,7 +56,7 @@ openedState = record { opened = 1; recording = 1; transaction = NONE; repositori
 
 -- ---- events
 
--- "at most 16 events"
+-- so many events at most
 abbrev pub places : ℕ
 places = 16
 
@@ -72,7 +72,7 @@ log n events = record { count = n; events = events }
 abbrev pub blankLog : Log
 blankLog = log 0 (replicate places blankEvent)
 
--- "an event is added, the oldest of sixteen dropping out"
+-- one event more; of sixteen the oldest goes
 abbrev pub shifted : List Event → Event → List Event
 shifted events e = drop 1 events ++ (e ∷ [])
 
@@ -82,7 +82,7 @@ added l e = cond (ltb (l .count) places) (log (l .count + 1) (set (l .events) (l
 abbrev pub session : State → Log → Session
 session s l = record { state = s; log = l }
 
--- "If the session is open and recording, an event is added": as it was at entry
+-- the refusal is recorded (CHIP, refusals) if the session was open and recording at entry
 abbrev pub noted : Session → ℕ → ℕ → Session
 noted x op refusal =
     cond (isOpen (x .state) && eqb (x .state .recording) 1)

@@ -26,13 +26,9 @@ answer refusal value x = record { refusal = refusal; value = value; session = x 
 abbrev pub outcome : Answer → List ℕ → List ℕ → Outcome
 outcome a w k = record { answer = a; working = w; kept = k }
 
--- "A refusal returns value 0": one event is all it may add
+-- a refusal: one event is all that it may add
 abbrev pub refusedAnswer : ℕ → ℕ → Session → Answer
 refusedAnswer op refusal x = answer refusal 0 (noted x op refusal)
-
--- ".. and changes no table word."
-abbrev pub refused : ℕ → ℕ → Session → List ℕ → List ℕ → Outcome
-refused op refusal x w k = outcome (refusedAnswer op refusal x) w k
 
 -- a closed session has no events
 abbrev pub logAfter : State → Log → Log
@@ -50,6 +46,6 @@ finished op x w k e =
 unfoldable pub core : ℕ → ℕ → ℕ → ℕ → Session → List ℕ → List ℕ → Outcome
 core op a b c x w k = finished op x w k (performed (operationOf op) a b c (x .state) w)
 
--- "First for every call: SY_ERR if anything above is unsound"; "SY_ERR adds none and returns the session as given"
+-- SY_ERR comes before all else (CHIP, operations), and gives the session back as it came
 unfoldable pub step : ℕ → ℕ → ℕ → ℕ → Session → List ℕ → List ℕ → Outcome
 step op a b c x w k = cond (sound x w k) (core op a b c x w k) (outcome (answer SY-ERR 0 x) w k)

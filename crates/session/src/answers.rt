@@ -1,7 +1,9 @@
 // The one place that builds answers.
 ghost use mathlib.Core.Path.{_≡_};
-ghost use Rattle.session.specs.Refusals.{SY-ERR};
-ghost use Rattle.session.specs.Step.{answer, logAfter, refusedAnswer, finishedAnswer};
+ghost use mathlib.Core.Logic.{_⊎_};
+ghost use Rattle.session.specs.Refusals.{SY-ERR, done};
+ghost use Rattle.session.specs.Step.{answer, finishedAnswer};
+ghost use Rattle.session.specs.Quick.Answers.{logOf};
 use crate::events::blank_log;
 use crate::events::noted;
 use crate::refusals;
@@ -11,7 +13,7 @@ use crate::state::Session;
 use crate::state::State;
 use crate::state::is_open;
 
-// "SY_ERR adds none and returns the session as given"
+// SY_ERR adds no event: the session goes back as it came.
 pub fn unsound(x: Session) -> Answer
     ensures { λ r. ⌜ r ≡ answer SY-ERR 0 x ⌝ }
 {
@@ -22,38 +24,30 @@ pub fn unsound(x: Session) -> Answer
     }
 }
 
-// A refusal: value 0, and at most one event more.
-fn refused(op: u32, refusal: u32, x: Session) -> Answer
-    ensures { λ r. ⌜ r ≡ refusedAnswer op refusal x ⌝ }
+// A refusal may add an event, and a closed session has none.
+fn log_after(op: u32, refusal: u32, x: Session, s: State) -> Log
+    ensures { λ r. ⌜ r ≡ logOf op refusal x s ⌝ }
+{
+    let log = x.log;
+    let before = x.state;
+    if refusal != refusals::DONE {
+        return noted(log, before, op, refusal);
+    }
+    if is_open(s) { log } else { blank_log() }
+}
+
+// The answer for an effect, done or refused. A refused one comes with value 0 and the state as it was, so that the answer
+// is built once.
+pub fn finished(op: u32, x: Session, refusal: u32, value: u32, state: State) -> Answer
+    requires { ⌜ (refusal ≡ done) ⊎ ((value ≡ 0) × (state ≡ x .state)) ⌝ }
+    ensures { λ r. ⌜ r ≡ finishedAnswer op x refusal value state ⌝ }
 {
     Answer {
         refusal,
-        value: 0,
-        session: noted(x, op, refusal),
-    }
-}
-
-// A closed session has no events.
-fn log_after(s: State, l: Log) -> Log
-    ensures { λ r. ⌜ r ≡ logAfter s l ⌝ }
-{
-    if is_open(s) { l } else { blank_log() }
-}
-
-// The answer for an effect: done with its value and state, or refused.
-pub fn finished(op: u32, x: Session, refusal: u32, value: u32, state: State) -> Answer
-    ensures { λ r. ⌜ r ≡ finishedAnswer op x refusal value state ⌝ }
-{
-    if refusal != refusals::DONE {
-        return refused(op, refusal, x);
-    }
-    let log = x.log;
-    Answer {
-        refusal: refusals::DONE,
         value,
         session: Session {
             state,
-            log: log_after(state, log),
+            log: log_after(op, refusal, x, state),
         },
     }
 }

@@ -3,8 +3,9 @@
 // them all.
 ghost use mathlib.Core.Path.{_≡_};
 ghost use mathlib.Core.Bool.{cond};
-ghost use Rattle.session.specs.Checks.{firstOf, known};
+ghost use Rattle.session.specs.Checks.{firstOf};
 ghost use Rattle.session.specs.Rows.{inReach, writable as writableOf};
+ghost use Rattle.session.specs.Quick.Rows.{known};
 use crate::conditions::away;
 use crate::conditions::missing;
 use crate::conditions::no_writing;

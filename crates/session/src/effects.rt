@@ -1,4 +1,4 @@
-// What a call does: its refusal, or "effect when done", the value, the state and what becomes of the tables. An operation
+// What a call does: its refusal, or what is done, the value, the state and what becomes of the tables. An operation
 // only says the change; the tables are written elsewhere.
 ghost use mathlib.Core.Path.{_≡_};
 ghost use Rattle.session.specs.Effects.{does, refuses, unlessRefused, number, ifWriting, created as createdIn};
@@ -66,7 +66,7 @@ pub fn changed(state: State, change: Change) -> Effect
     done(0, state, Tables::Changed(change))
 }
 
-// "as 7 if RW", "as 8 if RW"
+// What commits or drops does so only where a transaction writes.
 pub fn if_writing(s: State, tables: Tables) -> Tables
     ensures { λ r. ⌜ r ≡ ifWriting s tables ⌝ }
 {
@@ -79,7 +79,7 @@ pub fn as_number(b: bool) -> u32
     if b { 1 } else { 0 }
 }
 
-// "A creation takes the lowest free number"; NO_ROOM if every entry is live.
+// A creation takes the lowest free number; NO_ROOM if every entry is live.
 pub fn created(kind: Kind, first: u64, s: State, w: &[u64]) -> Effect
     ensures { λ r. ⌜ r ≡ createdIn kind first s (now (w .entry)) ⌝ }
 {

@@ -1,13 +1,16 @@
 // The log of events. This is the one place that adds an event.
 ghost use mathlib.Core.Path.{_≡_};
-ghost use Rattle.session.specs.States.{shifted as shiftedBy, added as addedTo, blankLog, noted as notedIn};
+ghost use Rattle.session.specs.States.{log, added as addedTo, blankLog, session, noted as notedIn};
 use crate::state::Event;
 use crate::state::Log;
-use crate::state::Session;
+use crate::state::State;
 use crate::state::is_open;
 
 // How many events a log holds.
 pub const PLACES: u64 = 16;
+
+// The place of the newest event of a full log.
+const LAST: usize = 15;
 
 pub fn blank_log() -> Log
     ensures { λ r. ⌜ r ≡ blankLog ⌝ }
@@ -18,35 +21,12 @@ pub fn blank_log() -> Log
     }
 }
 
-// The events one place on, the oldest dropping out.
-fn shifted(v: [Event; 16], e: Event) -> [Event; 16]
-    ensures { λ r. ⌜ r ≡ shiftedBy v e ⌝ }
+// With one event more behind the first n; of sixteen the oldest drops out. The events are moved in a loop, not named one by
+// one: so the compiler keeps them where they stand.
+fn added(before: [Event; 16], n: u64, e: Event) -> Log
+    ensures { λ r. ⌜ r ≡ addedTo (log n before) e ⌝ }
 {
-    [
-        v[1],
-        v[2],
-        v[3],
-        v[4],
-        v[5],
-        v[6],
-        v[7],
-        v[8],
-        v[9],
-        v[10],
-        v[11],
-        v[12],
-        v[13],
-        v[14],
-        v[15],
-        e,
-    ]
-}
-
-pub fn added(log: Log, e: Event) -> Log
-    ensures { λ r. ⌜ r ≡ addedTo log e ⌝ }
-{
-    let n = log.count;
-    let mut events = log.events;
+    let mut events = before;
     if n < PLACES {
         events[n as usize] = e;
         return Log {
@@ -54,23 +34,22 @@ pub fn added(log: Log, e: Event) -> Log
             events,
         };
     }
-    Log {
-        count: n,
-        events: shifted(events, e),
+    let mut i = 0;
+    while i < LAST {
+        events[i] = before[i + 1];
+        i += 1;
     }
+    events[LAST] = e;
+    Log { count: n, events }
 }
 
-// The session with the event added, if it is open and recording.
-pub fn noted(x: Session, op: u32, refusal: u32) -> Session
-    ensures { λ r. ⌜ r ≡ notedIn x op refusal ⌝ }
+// The log of a session in state s with the event added, if it is open and recording.
+pub fn noted(l: Log, s: State, op: u32, refusal: u32) -> Log
+    ensures { λ r. ⌜ r ≡ notedIn (session s l) op refusal .log ⌝ }
 {
-    let state = x.state;
-    let log = x.log;
-    if is_open(state) & (state.recording == 1) {
-        return Session {
-            state,
-            log: added(log, Event { op, refusal }),
-        };
+    if is_open(s) & (s.recording == 1) {
+        let before = l.events;
+        return added(before, l.count, Event { op, refusal });
     }
-    x
+    l
 }

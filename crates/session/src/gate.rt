@@ -1,7 +1,8 @@
-// "First for every call": whether the operation is listed, whether a session is open, and the transaction that its
+// What is asked before every call (CHIP): whether the operation is listed, whether a session is open, and the transaction that its
 // family needs.
 ghost use mathlib.Core.Path.{_≡_};
-ghost use Rattle.session.specs.Checks.{firstOf, known, transacted as transactedOf, gate as gateOf};
+ghost use Rattle.session.specs.Checks.{firstOf, transacted as transactedOf, gate as gateOf};
+ghost use Rattle.session.specs.Quick.Rows.{known};
 use crate::checks::first;
 use crate::operations::Operation;
 use crate::refusals;

@@ -1,7 +1,8 @@
 // The operations that ask for an open session and no more.
 ghost use mathlib.Core.Path.{_≡_};
-ghost use Rattle.session.specs.Checks.{firstOf, known};
-ghost use Rattle.session.specs.Rows.{rowDone, untransacted as untransactedOf, settling as settlingOf, sessionRow};
+ghost use Rattle.session.specs.Checks.{firstOf};
+ghost use Rattle.session.specs.Rows.{untransacted as untransactedOf, settling as settlingOf, sessionRow};
+ghost use Rattle.session.specs.Quick.Rows.{known, rowDone};
 use crate::checks::first;
 use crate::conditions::no_repository;
 use crate::conditions::no_type;

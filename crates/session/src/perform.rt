@@ -1,6 +1,7 @@
 // What a call does on a sound state: refused at the gate, refused by the operation's own checks, or its effect.
 ghost use mathlib.Core.Path.{_≡_};
-ghost use Rattle.session.specs.Rows.{rowDone, rowOf, performed};
+ghost use Rattle.session.specs.Rows.{rowOf, performed};
+ghost use Rattle.session.specs.Quick.Rows.{rowDone};
 use crate::effects::Effect;
 use crate::effects::moved;
 use crate::effects::refused;

@@ -1,7 +1,8 @@
 // The operations that ask for a transaction.
 ghost use mathlib.Core.Path.{_≡_};
-ghost use Rattle.session.specs.Checks.{firstOf, known};
-ghost use Rattle.session.specs.Rows.{rowDone, reading as readingOf, readerRow};
+ghost use Rattle.session.specs.Checks.{firstOf};
+ghost use Rattle.session.specs.Rows.{reading as readingOf, readerRow};
+ghost use Rattle.session.specs.Quick.Rows.{known, rowDone};
 use crate::checks::first;
 use crate::checks::in_reach;
 use crate::conditions::away;

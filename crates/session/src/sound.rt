@@ -5,7 +5,8 @@ ghost use Prim.Native.Nat.{_≤_};
 ghost use lib.ListN.{length};
 ghost use Rattle.words.specs.Layout.{words};
 ghost use Rattle.words.specs.Sets.{insert};
-ghost use Rattle.session.specs.Sound.{soundEvent, isBlank, soundPlace, soundPlaces, soundLog, soundAccess, soundTransaction, soundOpen, soundSession};
+ghost use Rattle.session.specs.States.{places};
+ghost use Rattle.session.specs.Sound.{soundEvent, isBlank, soundPlaces, soundLog, soundAccess, soundTransaction, soundOpen, soundSession};
 ghost use Rattle.session.specs.Quick.Access.{isSeen, inOpen};
 use crate::events::PLACES;
 use crate::refusals;
@@ -38,26 +39,27 @@ fn is_blank(e: Event) -> bool
     (e.op == 0) & (e.refusal == 0)
 }
 
-// Place i of a log with `count` events.
-fn sound_place(count: u64, i: u64, e: Event) -> bool
-    ensures { λ r. ⌜ r ≡ soundPlace count i e ⌝ }
-{
-    let used = i < count;
-    (used & sound_event(e)) | (!used & is_blank(e))
-}
-
-// No place ends the loop: sixteen tests without a branch are quicker.
+// The first `count` places hold events, the others are blank.
 fn sound_places(count: u64, events: [Event; 16]) -> bool
+    requires { ⌜ count ≤ places ⌝ }
     ensures { λ r. ⌜ r ≡ soundPlaces count events ⌝ }
 {
-    let mut ok = true;
     let mut i = 0;
-    while i < PLACES {
+    while i < count {
         let e = events[i as usize];
-        ok = ok & sound_place(count, i, e);
+        if !sound_event(e) {
+            return false;
+        }
         i += 1;
     }
-    ok
+    while i < PLACES {
+        let e = events[i as usize];
+        if !is_blank(e) {
+            return false;
+        }
+        i += 1;
+    }
+    true
 }
 
 fn sound_log(l: Log) -> bool
@@ -65,7 +67,10 @@ fn sound_log(l: Log) -> bool
 {
     let count = l.count;
     let events = l.events;
-    (count <= PLACES) & sound_places(count, events)
+    if PLACES < count {
+        return false;
+    }
+    sound_places(count, events)
 }
 
 // The label of a live model whose repository is open.
@@ -100,11 +105,15 @@ fn in_open(w: &[u64], repositories: u64) -> u64
     set
 }
 
-// The access sets share no model, and each lies within the models that may be seen.
+// The access sets share no model, and each lies within the models that may be seen. Where there is no access, as on a fresh
+// chip, there is nothing to look for.
 fn sound_access(s: State, w: &[u64]) -> bool
     requires { ⌜ words ≤ length (now w) ⌝ }
     ensures { λ r. ⌜ r ≡ soundAccess (now (w .entry)) s ⌝ }
 {
+    if (s.ro == EMPTY) & (s.rw == EMPTY) {
+        return true;
+    }
     let open = in_open(w, s.repositories);
     (s.ro & s.rw == EMPTY) & (s.ro & open == s.ro) & (s.rw & open == s.rw)
 }

@@ -1,9 +1,10 @@
 // The operations that ask for a transaction that writes. Each only says its change.
 ghost use mathlib.Core.Path.{_≡_};
 ghost use Rattle.words.specs.Sets.{sizeOf};
-ghost use Rattle.session.specs.Checks.{firstOf, known};
+ghost use Rattle.session.specs.Checks.{firstOf};
 ghost use Rattle.session.specs.Effects.{does};
-ghost use Rattle.session.specs.Rows.{rowDone, creating as creatingOf, writing as writingOf, referring as referringOf, writerRow};
+ghost use Rattle.session.specs.Rows.{creating as creatingOf, writing as writingOf, referring as referringOf, writerRow};
+ghost use Rattle.session.specs.Quick.Rows.{known, rowDone};
 use crate::checks::first;
 use crate::checks::in_reach;
 use crate::checks::writable;
@@ -149,7 +150,7 @@ fn delete_schema_instance(a: u32, s: State, w: &[u64]) -> Effect
     )
 }
 
-// A change that leaves a schema instance with this set: "value: models now in the set".
+// A change that leaves a schema instance with this set; the value is the size of it.
 fn regrouped(set: u64, s: State, change: Change) -> Effect
     ensures { λ r. ⌜ r ≡ does (sizeOf set) s (Tables.Changed change) ⌝ }
 {
@@ -269,7 +270,7 @@ fn reference(target: u32, m: u32, v: u32, w: &[u64]) -> u32
     )
 }
 
-// "R only"
+// Only a reference asks more of its value.
 fn referring(attribute: Attribute, m: u32, v: u32, w: &[u64]) -> u32
     ensures { λ r. ⌜ r ≡ firstOf (referringOf attribute m v (now (w .entry))) ⌝ }
 {

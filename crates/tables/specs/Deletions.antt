@@ -26,7 +26,7 @@ refers t goes i k = isReference (attributeOf (typeAt t i) k) && isSet t i k && g
 
 -- ---- what holds one back
 
--- "an instance that stays, in another model without RW access, refers to one that would go"
+-- what holds a deletion back: an instance that would stay refers to one that would go, and its model has no RW access
 abbrev pub holdsBack : List ℕ → (ℕ → Bool) → ℕ → ℕ → Bool
 holdsBack t goes rw i = isLive t Instance i && not (goes i) && not (has rw (modelAt t i)) && anyB values (refers t goes i)
 
@@ -36,14 +36,14 @@ heldBack t kind n rw = anyB (countOf Instance) (holdsBack t (goesWith t kind n) 
 
 -- ---- what it writes
 
--- "references to them become unset": those of the first n attributes of instance i
+-- references to those that go are unset: those of the first n attributes of instance i
 unfoldable pub detached : List ℕ → (ℕ → Bool) → ℕ → ℕ → List ℕ
 detached t goes i zero = t
 detached t goes i (suc n) =
     let before = detached t goes i n in
     cond (refers before goes i n) (withoutValue before i n) before
 
--- "its instances go": the first n instances, each gone or rid of its references to those that go
+-- the sweep: the first n instances, each gone or rid of its references to those that go
 abbrev pub sweptAt : List ℕ → (ℕ → Bool) → ℕ → List ℕ
 sweptAt t goes i = cond (goes i) (withoutEntry t Instance i) (detached t goes i values)
 
@@ -51,7 +51,7 @@ unfoldable pub swept : List ℕ → (ℕ → Bool) → ℕ → List ℕ
 swept t goes zero = t
 swept t goes (suc n) = sweptAt (swept t goes n) goes n
 
--- "it leaves all sets": the first n
+-- a model that goes is in no set any more: the first n
 unfoldable pub ungrouped : List ℕ → ℕ → ℕ → List ℕ
 ungrouped t m zero = t
 ungrouped t m (suc n) = withoutMember (ungrouped t m n) n m

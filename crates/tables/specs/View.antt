@@ -22,7 +22,7 @@ labelAt t kind i = wordOf t kind i 0
 abbrev pub setAt : List ℕ → ℕ → ℕ
 setAt t s = wordOf t SchemaInstance s 1
 
--- two models "in one set"
+-- some set has both models
 unfoldable pub shareSet : List ℕ → ℕ → ℕ → Bool
 shareSet t m n = anyB (countOf SchemaInstance) (λ s. has (setAt t s) m && has (setAt t s) n)
 

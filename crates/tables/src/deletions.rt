@@ -36,7 +36,7 @@ fn goes_with(t: &[u64], kind: Kind, n: u32, j: u64) -> bool
     }
 }
 
-// "an instance that stays, in another model without RW access, refers to one that would go". Access is asked first: it
+// An instance that would stay, in a model without RW access, refers to one that would go. Access is asked first: it
 // needs no dictionary.
 fn holds_back(t: &[u64], kind: Kind, n: u32, rw: u64, i: u32) -> bool
     ensures { λ r. ⌜ r ≡ holdsBack (now (t .entry)) (goesWith (now (t .entry)) kind n) rw i ⌝ }
@@ -70,7 +70,7 @@ pub fn held_back(t: &[u64], kind: Kind, n: u32, rw: u64) -> bool
     false
 }
 
-// "references to them become unset"
+// References to those that go are unset.
 fn detach(t: &mut [u64], g: Going, i: u32)
     ensures { λ _. ⌜ now (t .exit) ≡ detached (now (t .entry)) (quick.goes g) i values ⌝ }
 {
@@ -93,7 +93,7 @@ fn sweep_at(t: &mut [u64], g: Going, i: u32)
     }
 }
 
-// "its instances go, references to them become unset", the last instance included.
+// Those that go are freed and references to them unset, the last instance included.
 fn sweep(t: &mut [u64], g: Going)
     ensures { λ _. ⌜ now (t .exit) ≡ swept (now (t .entry)) (quick.goes g) (countOf kinds.Instance) ⌝ }
 {
@@ -105,7 +105,7 @@ fn sweep(t: &mut [u64], g: Going)
     }
 }
 
-// "it leaves all sets"
+// A model that goes is in no set any more.
 fn ungroup(t: &mut [u64], m: u32)
     ensures { λ _. ⌜ now (t .exit) ≡ ungrouped (now (t .entry)) m (countOf kinds.SchemaInstance) ⌝ }
 {

@@ -3,7 +3,6 @@ ghost use mathlib.Core.Path.{_≡_};
 ghost use Rattle.words.specs.Sets.{has as hasBit};
 ghost use Rattle.tables.specs.Quick.Live.{noLive, withLive, ofSchema, within, modelFits};
 use dictionary::schema;
-use words::fields::model_in;
 use words::sets::BITS;
 use words::sets::EMPTY;
 use words::sets::has;
@@ -60,9 +59,10 @@ pub fn is_member(set: u64, m: u32) -> bool
     (m < BITS) & has(set, m % BITS)
 }
 
-// "an instance's model is live and of its type's schema"
+// An instance lies in a live model of its type's schema (CHIP, sound tables). A model past the last is found out beside the value words, and the
+// bit is asked for in one expression, not by `has`: so the compiler makes one instruction of it.
 pub fn model_fits(live: Live, ty: u32, h: u64) -> bool
     ensures { λ r. ⌜ r ≡ modelFits live ty h ⌝ }
 {
-    is_member(of_schema(live, schema(ty)), model_in(h))
+    (of_schema(live, schema(ty)) >> (h / 0x100 % (BITS as u64))) % 2 == 1
 }

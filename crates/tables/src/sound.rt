@@ -7,23 +7,24 @@ ghost use Rattle.words.specs.declared.layout.Kind.the-variants.{Model, SchemaIn
 ghost use Rattle.words.specs.Layout.{words, countOf};
 ghost use Rattle.logic.specs.Search.{allB};
 ghost use Rattle.tables.specs.Quick.Live.{liveIn};
-ghost use Rattle.tables.specs.Quick.Labels.{labelled, soundLabels, testedEntries, sameEntries};
+ghost use Rattle.tables.specs.Quick.Values.{liveFits};
+ghost use Rattle.tables.specs.Quick.Labels.{labelled, soundLabels, testedEntries, sameEntries, isBlank};
 ghost use Rattle.tables.specs.Sound.{soundGroup, soundInstance, soundEntries, soundInstances, soundTable, soundTables};
 use super::labels::Tested;
 use super::labels::test_labels;
 use super::live::Live;
 use super::live::is_within;
 use super::live::model_fits;
+use super::live::nobody;
 use super::live::of_schema;
 use super::values::flags_fit;
-use super::values::no_values;
 use super::values::reference_fits;
 use super::values::words_fit;
 use super::view::label_at;
 use super::view::set_at;
-use dictionary::attributes_in;
+use dictionary::flag_in;
 use dictionary::is_type;
-use dictionary::reference_in;
+use dictionary::limit_in;
 use dictionary::targets_in;
 use words::copies::agree;
 use words::copies::is_long;
@@ -36,7 +37,7 @@ use words::layout::count;
 use words::layout::place;
 use words::sets::is_empty;
 
-// "a set names only live models of the same schema"; "Free: both 0."
+// A set holds live models of its own schema; of a free schema instance the set is empty (CHIP, sound tables).
 fn sound_group(t: &[u64], live: Live, s: u32) -> bool
     requires { ⌜ (live ≡ liveIn (now t) Model) × (labelled (now t) SchemaInstance s ≡ true) ⌝ }
     ensures { λ r. ⌜ r ≡ soundGroup (now (t .entry)) s ⌝ }
@@ -64,27 +65,39 @@ fn sound_groups(t: &[u64], live: Live) -> bool
     true
 }
 
-// The table is long enough, so the words are read where they stand. Tests are joined by `&`: in this loop a branch that
-// goes now one way, now the other costs more than the test that it spares.
-fn sound_instance(t: &[u64], live: Live, i: u32) -> bool
-    requires { ⌜ (live ≡ liveIn (now t) Model) × (words ≤ length (now t)) × (i < countOf Instance) ⌝ }
-    ensures { λ r. ⌜ r ≡ soundInstance (now (t .entry)) i ⌝ }
+// A live instance by its header and its value words. Tests are joined by `&`: in this loop a branch that goes now one way,
+// now the other costs more than the test that it spares. In another order they are slower.
+fn live_fits(t: &[u64], live: Live, h: u64, v0: u64, v1: u64, v2: u64, v3: u64) -> bool
+    requires { ⌜ words ≤ length (now t) ⌝ }
+    ensures { λ r. ⌜ r ≡ liveFits (now (t .entry)) live h v0 v1 v2 v3 ⌝ }
 {
-    let at = place(Kind::Instance, i);
-    let h = t[at];
-    if h == 0 {
-        return no_values(t, at);
-    }
     // No type, or none of the ten. In a function of its own this test would not spare the matches on the type theirs.
     let ty = type_in(h);
     if (h % 256 == 0) | !is_type(ty) {
         return false;
     }
     let shape = dictionary::shape(ty);
-    if !(model_fits(live, ty, h) & flags_fit(attributes_in(shape), h) & words_fit(t, at, h)) {
+    if !(model_fits(live, ty, h) & words_fit(h, v0, v1, v2, v3) & flags_fit(limit_in(shape), h)) {
         return false;
     }
-    reference_fits(t, at, reference_in(shape), targets_in(shape), h)
+    reference_fits(t, flag_in(shape), targets_in(shape), h, v1, v2)
+}
+
+// The table is long enough, so the words are read where they stand.
+fn sound_instance(t: &[u64], live: Live, i: u32) -> bool
+    requires { ⌜ (live ≡ liveIn (now t) Model) × (words ≤ length (now t)) × (i < countOf Instance) ⌝ }
+    ensures { λ r. ⌜ r ≡ soundInstance (now (t .entry)) i ⌝ }
+{
+    let at = place(Kind::Instance, i);
+    let h = t[at];
+    let v0 = t[at + 1];
+    let v1 = t[at + 2];
+    let v2 = t[at + 3];
+    let v3 = t[at + 4];
+    if h == 0 {
+        return (v0 == 0) & (v1 == 0) & (v2 == 0) & (v3 == 0);
+    }
+    live_fits(t, live, h, v0, v1, v2, v3)
 }
 
 fn sound_instances(t: &[u64], live: Live) -> bool
@@ -102,11 +115,32 @@ fn sound_instances(t: &[u64], live: Live) -> bool
     true
 }
 
+// No model and no schema instance: the words before the first instance are 0. A chip in use mostly has model 0.
+fn is_blank(t: &[u64]) -> bool
+    requires { ⌜ words ≤ length (now t) ⌝ }
+    ensures { λ r. ⌜ r ≡ isBlank (now (t .entry)) ⌝ }
+{
+    if t[0] != 0 {
+        return false;
+    }
+    let n = base(Kind::Instance);
+    let mut all = 0;
+    let mut i = 0;
+    while i < n {
+        all = all | t[i];
+        i += 1;
+    }
+    all == 0
+}
+
 // Models and schema instances.
 fn test_entries(t: &[u64]) -> Tested
     requires { ⌜ words ≤ length (now t) ⌝ }
     ensures { λ r. ⌜ r ≡ testedEntries (now (t .entry)) ⌝ }
 {
+    if is_blank(t) {
+        return Tested::Sound(nobody());
+    }
     let Tested::Sound(live) = test_labels(t, Kind::Model) else {
         return Tested::Unsound;
     };
@@ -137,13 +171,13 @@ fn same_entries(a: &[u64], b: &[u64]) -> bool
     ensures { λ r. ⌜ r ≡ sameEntries (now (a .entry)) (now (b .entry)) ⌝ }
 {
     let n = base(Kind::Instance);
-    let mut same = true;
+    let mut differing = 0;
     let mut i = 0;
     while i < n {
-        same = same & (a[i] == b[i]);
+        differing = differing | (a[i] ^ b[i]);
         i += 1;
     }
-    same
+    differing == 0
 }
 
 // A table beside one whose entries are sound: entries that are the same need no second test.
@@ -175,15 +209,15 @@ fn sound_pair(working: &[u64], kept: &[u64]) -> bool
     sound_beside(working, live, kept)
 }
 
-// "Unless a read-write transaction is open, both tables agree": one of them then tells of both.
+// Unless a transaction writes, both tables agree: one of two that agree tells of both, in a transaction too.
 pub fn sound_tables(writing: bool, working: &[u64], kept: &[u64]) -> bool
     ensures { λ r. ⌜ r ≡ soundTables writing (now (working .entry)) (now (kept .entry)) ⌝ }
 {
+    if agree(working, kept) {
+        return sound_table(working);
+    }
     if writing {
         return sound_pair(working, kept);
     }
-    if !agree(working, kept) {
-        return false;
-    }
-    sound_table(working)
+    false
 }

@@ -37,7 +37,7 @@ fn has_both(set: u64, m: u32, n: u32) -> bool
     has(set, m) & has(set, n)
 }
 
-// Two models "in one set".
+// Some set has both models (CHIP, operations: 44).
 pub fn share_set(t: &[u64], m: u32, n: u32) -> bool
     ensures { λ r. ⌜ r ≡ shareSet (now (t .entry)) m n ⌝ }
 {

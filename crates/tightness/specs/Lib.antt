@@ -1,1 +1,3 @@
 pub mod Unique
+pub mod Code
+pub mod Demand3

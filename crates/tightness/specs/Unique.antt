@@ -47,7 +47,9 @@ use Rattle.dictionary.proofs.parents.parent.Reads as dictionary-parents-parent
 use Rattle.dictionary.proofs.parents.subtype.Reads as dictionary-parents-subtype
 use Rattle.dictionary.proofs.shapes.shape.Reads as dictionary-shapes-shape
 use Rattle.dictionary.proofs.shapes.attributes_in.Reads as dictionary-shapes-attributes-in
+use Rattle.dictionary.proofs.shapes.limit_in.Reads as dictionary-shapes-limit-in
 use Rattle.dictionary.proofs.shapes.reference_in.Reads as dictionary-shapes-reference-in
+use Rattle.dictionary.proofs.shapes.flag_in.Reads as dictionary-shapes-flag-in
 use Rattle.dictionary.proofs.shapes.targets_in.Reads as dictionary-shapes-targets-in
 use Rattle.dictionary.proofs.shapes.reference.Reads as dictionary-shapes-reference
 use Rattle.tables.proofs.changes.apply.Reads as tables-changes-apply
@@ -65,7 +67,6 @@ use Rattle.tables.proofs.view.value_at.Reads as tables-view-value-at
 use Rattle.session.proofs.call.core.Reads as session-call-core
 use Rattle.session.proofs.call.call.Reads as session-call-call
 use Rattle.session.proofs.events.blank_log.Reads as session-events-blank-log
-use Rattle.session.proofs.events.added.Reads as session-events-added
 use Rattle.session.proofs.events.noted.Reads as session-events-noted
 use Rattle.session.proofs.state.is_open.Reads as session-state-is-open
 use Rattle.session.proofs.state.under.Reads as session-state-under
@@ -216,8 +217,14 @@ dictionary-shapes-shape-one κs a x y s s′ p q = p ∙ sym q
 pub dictionary-shapes-attributes-in-one : (κs : _) (a : _) (x y : _) (s s′ : _) → dictionary-shapes-attributes-in.Post κs a x s → dictionary-shapes-attributes-in.Post κs a y s′ → x ≡ y
 dictionary-shapes-attributes-in-one κs a x y s s′ p q = p ∙ sym q
 
+pub dictionary-shapes-limit-in-one : (κs : _) (a : _) (x y : _) (s s′ : _) → dictionary-shapes-limit-in.Post κs a x s → dictionary-shapes-limit-in.Post κs a y s′ → x ≡ y
+dictionary-shapes-limit-in-one κs a x y s s′ p q = p ∙ sym q
+
 pub dictionary-shapes-reference-in-one : (κs : _) (a : _) (x y : _) (s s′ : _) → dictionary-shapes-reference-in.Post κs a x s → dictionary-shapes-reference-in.Post κs a y s′ → x ≡ y
 dictionary-shapes-reference-in-one κs a x y s s′ p q = p ∙ sym q
+
+pub dictionary-shapes-flag-in-one : (κs : _) (a : _) (x y : _) (s s′ : _) → dictionary-shapes-flag-in.Post κs a x s → dictionary-shapes-flag-in.Post κs a y s′ → x ≡ y
+dictionary-shapes-flag-in-one κs a x y s s′ p q = p ∙ sym q
 
 pub dictionary-shapes-targets-in-one : (κs : _) (a : _) (x y : _) (s s′ : _) → dictionary-shapes-targets-in.Post κs a x s → dictionary-shapes-targets-in.Post κs a y s′ → x ≡ y
 dictionary-shapes-targets-in-one κs a x y s s′ p q = p ∙ sym q
@@ -265,17 +272,16 @@ tables-view-value-at-one κs a x y s s′ p q = p ∙ sym q
 
 -- ---- session
 
-pub session-call-core-one : (κs : _) (a : _) (x y : _) (s s′ : _) → session-call-core.Post κs a x s → session-call-core.Post κs a y s′ → outcome x (now (s .1 .1 .1 .1 .1 .0)) (now (s .1 .1 .1 .1 .1 .1 .0)) ≡ outcome y (now (s′ .1 .1 .1 .1 .1 .0)) (now (s′ .1 .1 .1 .1 .1 .1 .0))
+pub session-call-core-one : (κs : _) (a : _) (x y : _) (s s′ : _) → session-call-core.Post κs a x s → session-call-core.Post κs a y s′
+    → outcome x (now (s .1 .1 .1 .1 .1 .0)) (now (s .1 .1 .1 .1 .1 .1 .0)) ≡ outcome y (now (s′ .1 .1 .1 .1 .1 .0)) (now (s′ .1 .1 .1 .1 .1 .1 .0))
 session-call-core-one κs a x y s s′ p q = p ∙ sym q
 
-pub session-call-call-one : (κs : _) (a : _) (x y : _) (s s′ : _) → session-call-call.Post κs a x s → session-call-call.Post κs a y s′ → outcome x (now (s .1 .1 .1 .1 .1 .0)) (now (s .1 .1 .1 .1 .1 .1 .0)) ≡ outcome y (now (s′ .1 .1 .1 .1 .1 .0)) (now (s′ .1 .1 .1 .1 .1 .1 .0))
+pub session-call-call-one : (κs : _) (a : _) (x y : _) (s s′ : _) → session-call-call.Post κs a x s → session-call-call.Post κs a y s′
+    → outcome x (now (s .1 .1 .1 .1 .1 .0)) (now (s .1 .1 .1 .1 .1 .1 .0)) ≡ outcome y (now (s′ .1 .1 .1 .1 .1 .0)) (now (s′ .1 .1 .1 .1 .1 .1 .0))
 session-call-call-one κs a x y s s′ p q = p ∙ sym q
 
 pub session-events-blank-log-one : (κs : _) (a : _) (x y : _) (s s′ : _) → session-events-blank-log.Post κs a x s → session-events-blank-log.Post κs a y s′ → x ≡ y
 session-events-blank-log-one κs a x y s s′ p q = p ∙ sym q
-
-pub session-events-added-one : (κs : _) (a : _) (x y : _) (s s′ : _) → session-events-added.Post κs a x s → session-events-added.Post κs a y s′ → x ≡ y
-session-events-added-one κs a x y s s′ p q = p ∙ sym q
 
 pub session-events-noted-one : (κs : _) (a : _) (x y : _) (s s′ : _) → session-events-noted.Post κs a x s → session-events-noted.Post κs a y s′ → x ≡ y
 session-events-noted-one κs a x y s s′ p q = p ∙ sym q
@@ -323,8 +329,10 @@ records-lines-end-one κs a x y s s′ p q = (p .1 ∙ sym (q .1), p .0 ∙ sym 
 
 -- ---- the faces for C: chip and, for the bench, bench_core
 
-pub chip-chip-call-one : (κs : _) (a : _) (x y : _) (s s′ : _) → chip-chip-call.Post κs a x s → chip-chip-call.Post κs a y s′ → outcome x (now (s .1 .1 .1 .1 .1 .0)) (now (s .1 .1 .1 .1 .1 .1 .0)) ≡ outcome y (now (s′ .1 .1 .1 .1 .1 .0)) (now (s′ .1 .1 .1 .1 .1 .1 .0))
+pub chip-chip-call-one : (κs : _) (a : _) (x y : _) (s s′ : _) → chip-chip-call.Post κs a x s → chip-chip-call.Post κs a y s′
+    → outcome x (now (s .1 .1 .1 .1 .1 .0)) (now (s .1 .1 .1 .1 .1 .1 .0)) ≡ outcome y (now (s′ .1 .1 .1 .1 .1 .0)) (now (s′ .1 .1 .1 .1 .1 .1 .0))
 chip-chip-call-one κs a x y s s′ p q = p ∙ sym q
 
-pub bench-core-chip-core-one : (κs : _) (a : _) (x y : _) (s s′ : _) → bench-core-chip-core.Post κs a x s → bench-core-chip-core.Post κs a y s′ → outcome x (now (s .1 .1 .1 .1 .1 .0)) (now (s .1 .1 .1 .1 .1 .1 .0)) ≡ outcome y (now (s′ .1 .1 .1 .1 .1 .0)) (now (s′ .1 .1 .1 .1 .1 .1 .0))
+pub bench-core-chip-core-one : (κs : _) (a : _) (x y : _) (s s′ : _) → bench-core-chip-core.Post κs a x s → bench-core-chip-core.Post κs a y s′
+    → outcome x (now (s .1 .1 .1 .1 .1 .0)) (now (s .1 .1 .1 .1 .1 .1 .0)) ≡ outcome y (now (s′ .1 .1 .1 .1 .1 .0)) (now (s′ .1 .1 .1 .1 .1 .1 .0))
 bench-core-chip-core-one κs a x y s s′ p q = p ∙ sym q

@@ -7,11 +7,11 @@ use lib.ListN.{length, getD, take, drop}
 use Rattle.words.specs.Layout.{words}
 use Rattle.logic.specs.Search.{allB}
 
--- "Both tables have at least 736 words."
+-- a table has all the words in use (CHIP, sound tables)
 abbrev pub isLong : List ℕ → Bool
 isLong t = leb words (length t)
 
--- "both tables agree in words 0 to 735"
+-- two tables agree in them
 abbrev pub sameAt : List ℕ → List ℕ → ℕ → Bool
 sameAt a b i = eqb (getD a i 0) (getD b i 0)
 
@@ -22,6 +22,6 @@ agree a b = isLong a && isLong b && allB words (sameAt a b)
 abbrev pub inBoth : List ℕ → List ℕ → ℕ
 inBoth a b = min words (min (length a) (length b))
 
--- "working is copied to kept": the words in use, as far as both tables have them; what lies beyond stays
+-- a commit or an abort copies the words in use, as far as both tables have them; what lies beyond stays
 abbrev pub copied : List ℕ → List ℕ → List ℕ
 copied from to = take (inBoth from to) from ++ drop (inBoth from to) to

@@ -48,11 +48,11 @@ freeAt t kind i = isFree (wordOf t kind i 0)
 abbrev pub firstFree : List ℕ → Kind → ℕ → ℕ
 firstFree t kind from = firstFrom (freeAt t kind) (countOf kind - from) from
 
--- "A creation takes the lowest free number"; the count if none is free
+-- the number that a creation takes (CHIP, operations): the lowest free one; the count if none is free
 unfoldable pub nextFree : List ℕ → Kind → ℕ
 nextFree t kind = firstFree t kind 0
 
--- "Every entry is free or well formed", as far as its first word tells
+-- free or well formed (CHIP, sound tables), as far as the first word tells
 abbrev pub formed : Kind → ℕ → Bool
 formed kind w = isFree w || wellFormed kind w
 

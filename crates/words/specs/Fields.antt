@@ -9,8 +9,7 @@ use Rattle.words.specs.Sets.{has, insert, remove}
 
 -- ---- The label: the word of a model, and the first word of a schema instance
 
--- "Model word: name + 2^32 · repository + 2^40 · schema." "Schema instance: a word of the same form"
--- (repository and schema have eight bits each: what does not fit is cut)
+-- CHIP, words of a table; repository and schema have eight bits each, and what does not fit is cut
 abbrev pub labelOf : ℕ → ℕ → ℕ → ℕ
 labelOf repository schema name = name + 0x1_0000_0000 * (repository % 256) + 0x100_0000_0000 * (schema % 256)
 
@@ -23,11 +22,11 @@ repositoryIn w = w / 0x1_0000_0000 % 256
 abbrev pub schemaIn : ℕ → ℕ
 schemaIn w = w / 0x100_0000_0000 % 256
 
--- "8 repositories (0 to 7)"
+-- CHIP, words of a table
 abbrev pub repositories : ℕ
 repositories = 8
 
--- "Schema is 1 or 2."
+-- one of the two schemas
 abbrev pub isSchema : ℕ → Bool
 isSchema schema = leb 1 schema && leb schema 2
 
@@ -37,7 +36,7 @@ isLabel w = ltb w 0x1_0000_0000_0000 && ltb (repositoryIn w) repositories && isS
 
 -- ---- The header: the first word of an instance
 
--- "1 + type + 2^8 · model + 2^16 · flags, where flag bit k says that attribute k is set; then four value words"
+-- CHIP, words of a table: the flags tell which attributes are set, and the value words stand behind
 abbrev pub headerOf : ℕ → ℕ → ℕ → ℕ
 headerOf type model flags = 1 + type % 256 + 0x100 * (model % 256) + 0x1_0000 * (flags % 256)
 
@@ -68,13 +67,13 @@ withFlag h k = cond (ltb k values) (insert h (16 + k)) h
 abbrev pub withoutFlag : ℕ → ℕ → ℕ
 withoutFlag h k = cond (ltb k values) (remove h (16 + k)) h
 
--- what a value word says: "value words below 2^32"
+-- what a value word says: its lowest 32 bits
 abbrev pub valueIn : ℕ → ℕ
 valueIn w = w % 0x1_0000_0000
 
 -- ---- The first word of an entry
 
--- "A free entry is 0."
+-- free is 0
 abbrev pub isFree : ℕ → Bool
 isFree w = eqb w 0
 

@@ -4,8 +4,7 @@ use Rattle.words.specs.declared.layout.Kind.{Kind}
 use Rattle.words.specs.declared.layout.Kind.the-variants.{Model, SchemaInstance, Instance}
 use Rattle.words.specs.declared.layout.Row.{Row}
 
--- "Words 0 to 63: model m. Words 64 to 95: schema instance s at 64+2s. Words 96 to 735: instance i at 96+5i."
--- "64 models, 16 schema instances, 128 entity instances"
+-- CHIP, words of a table, for the places; what the chip offers, for the counts
 abbrev pub rowOf : Kind → Row
 rowOf Model = record { base = 0; stride = 1; count = 64 }
 rowOf SchemaInstance = record { base = 64; stride = 2; count = 16 }
@@ -27,7 +26,7 @@ countOf kind = rowOf kind .count
 abbrev pub placeOf : Kind → ℕ → ℕ
 placeOf kind i = baseOf kind + strideOf kind * i
 
--- "Words from 736 on are never read or written": the words in use end with the last kind's last entry
+-- the words in use end with the last kind's last entry: 736 (CHIP, words of a table)
 abbrev pub words : ℕ
 words = placeOf Instance (countOf Instance)
 

@@ -1,4 +1,4 @@
--- Sets of models in one word: "the set of its models, bit m for model m". The same bits serve an instance's flags.
+-- Sets of models in one word, a bit for each model (CHIP, words of a table). The same bits serve an instance's flags.
 use Prim.Native.Nat.{ℕ, zero, suc, _+_, _-_, _*_, _/_, _%_, _^_}
 use mathlib.Core.Bool.{Bool, cond}
 use mathlib.Core.List.{List}

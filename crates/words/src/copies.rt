@@ -1,6 +1,9 @@
 // The words in use of two tables: whether they agree, and a copy from one to the other.
 ghost use mathlib.Core.Path.{_≡_};
-ghost use Prim.Native.Nat.{min};
+ghost use mathlib.Core.List.{_++_};
+ghost use Prim.Native.Nat.{min, _≤_};
+ghost use lib.ListN.{length, take, drop};
+ghost use Rattle.words.specs.Layout.{words};
 ghost use Rattle.words.specs.Copies.{isLong, agree as agreeing, copied};
 use crate::layout::WORDS;
 
@@ -35,10 +38,40 @@ fn least(a: usize, b: usize) -> usize
     if a < b { a } else { b }
 }
 
+// The words in use, in a place of their own.
+fn taken(from: &[u64]) -> [u64; WORDS]
+    requires { ⌜ words ≤ length (now from) ⌝ }
+    ensures { λ r. ⌜ r ≡ take words (now (from .entry)) ⌝ }
+{
+    let mut block = [0u64; WORDS];
+    let mut i = 0;
+    while i < WORDS {
+        block[i] = from[i];
+        i += 1;
+    }
+    block
+}
+
+fn given(block: [u64; WORDS], to: &mut [u64])
+    requires { ⌜ (length block ≡ words) × (words ≤ length (now to)) ⌝ }
+    ensures { λ _. ⌜ now (to .exit) ≡ take words block ++ drop words (now (to .entry)) ⌝ }
+{
+    let mut i = 0;
+    while i < WORDS {
+        to[i] = block[i];
+        i += 1;
+    }
+}
+
+// By way of a block, since the compiler then sees that the two do not overlap and makes one move of it.
 pub fn copy(from: &[u64], to: &mut [u64])
     ensures { λ _. ⌜ now (to .exit) ≡ copied (now (from .entry)) (now (to .entry)) ⌝ }
 {
-    let n = least(WORDS, least(from.len(), to.len()));
+    let n = least(from.len(), to.len());
+    if WORDS <= n {
+        given(taken(from), to);
+        return;
+    }
     let mut i = 0;
     while i < n {
         to[i] = from[i];

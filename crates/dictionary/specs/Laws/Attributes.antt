@@ -19,7 +19,7 @@ use Rattle.logic.specs.Laws.Bools.{decided}
 use Rattle.dictionary.specs.Dictionary.{lacks, types, isType, parentOf, schemaOf, ownOf, above, attributesOf, attributeOf, the-table}
 use Rattle.dictionary.specs.Laws.Types.{no-type-parent, no-type-own, of-type, climb-step}
 
--- "Inherited attributes come first."
+-- what is inherited stands first
 pub attributes-step : (t : ℕ) → attributesOf t ≡ above [] attributesOf (parentOf t) ++ ownOf t
 unfolding attributesOf
 attributes-step t = climb-step [] _ t

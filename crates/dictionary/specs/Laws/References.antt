@@ -1,7 +1,7 @@
 -- The reference of a type: there is one at most, and the word of the types that it may name.
 use mathlib.Core.Path.{_≡_, refl, sym, _∙_, ap}
 use mathlib.Core.Bool.{Bool, true, false, cond, not, _||_, false≢true}
-use mathlib.Core.Logic.{⊎-elim}
+use mathlib.Core.Logic.{_⊎_, ⊎-elim}
 use Prim.Native.Nat.{ℕ, zero, suc, _+_, _/_, _%_, _^_, _≤_, _<_}
 use native.Mathlib.Nat.{div-eq-of-lt, lt-of-lt-of-le}
 use native.Mathlib.Omega.{arith}
@@ -13,6 +13,7 @@ use Rattle.dictionary.specs.declared.answers.Attribute.the-variants.{Lac
 use Rattle.logic.specs.Search.{allB}
 use Rattle.logic.specs.Laws.Search.{all-at}
 use Rattle.logic.specs.Laws.Bools.{decided}
+use Rattle.logic.specs.Laws.Decides.{either, equal}
 use Rattle.dictionary.specs.Dictionary.{types, isType, isReference, attributeOf, the-table}
 use Rattle.dictionary.specs.Laws.Types.{of-type}
 use Rattle.dictionary.specs.Laws.Attributes.{attributes-few, attribute-lacking, no-type-attribute, reference-type}
@@ -80,6 +81,15 @@ reference-small t =
     (λ i. rw (no-type-reference t i) (omega arith))
     (decided (isType t))
 
+-- a reference is the second attribute or the third
+pub reference-among : (t : ℕ) → (referenceOf t ≡ 1) ⊎ ((referenceOf t ≡ 2) ⊎ (referenceOf t ≡ noReference))
+unfolding allB referenceOf the-table
+reference-among t = either (eqb (referenceOf t) 1) _ (equal (referenceOf t) 1)
+    (either (eqb (referenceOf t) 2) _ (equal (referenceOf t) 2) (equal (referenceOf t) noReference)) .holds
+    (⊎-elim (λ i. of-type (λ t. eqb (referenceOf t) 1 || (eqb (referenceOf t) 2 || eqb (referenceOf t) noReference)) refl t i)
+    (λ i. rw (no-type-reference t i))
+    (decided (isType t)))
+
 -- 1 for yes, 0 for no
 abbrev pub bit : Bool → ℕ
 bit b = cond b 1 0
@@ -96,6 +106,10 @@ bit-of-type t u i h =
 targets-below : (t : ℕ) → isType t ≡ true → targetsOf t < 2 ^ types
 unfolding allB referenceOf maskBelow targetsOf subtype the-table
 targets-below t i = ltb-true (targetsOf t) (2 ^ types) (of-type (λ t. ltb (targetsOf t) (2 ^ types)) refl t i)
+
+pub targets-small : (t : ℕ) → targetsOf t < 0x400
+unfolding the-table
+targets-small t = ⊎-elim (λ i. targets-below t i) (λ i. rw (no-type-targets t i) (omega arith)) (decided (isType t))
 
 not-named : (u target : ℕ) → isType target ≡ true → isType u ≡ false → subtype u target ≡ false
 not-named u target p q =

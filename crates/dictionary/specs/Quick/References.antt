@@ -20,7 +20,7 @@ unfoldable pub maskBelow : ℕ → (ℕ → Bool) → ℕ
 maskBelow zero f = 0
 maskBelow (suc n) f = maskBelow n f + cond (f n) (2 ^ n) 0
 
--- "an instance of type t or a subtype"
+-- the types that an attribute may name: R's type and its subtypes
 abbrev pub mayName : Attribute → ℕ → Bool
 mayName Lacking u = false
 mayName Whole u = false

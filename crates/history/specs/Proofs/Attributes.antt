@@ -12,11 +12,11 @@ use Rattle.tables.specs.Laws.Sound.{live-below}
 use Rattle.words.specs.declared.layout.Kind.{Kind}
 use Rattle.words.specs.declared.layout.Kind.the-variants.{Model, SchemaInstance, Instance}
 use Rattle.words.specs.Layout.{countOf}
-use Rattle.words.specs.Fields.{typeIn, modelIn, values, isFree, flagged, withFlag, withoutFlag}
+use Rattle.words.specs.Fields.{values, isFree, flagged, withFlag, withoutFlag}
 use Rattle.words.specs.Entries.{wordOf}
 use Rattle.words.specs.Laws.Layout.{kinds-apart}
 use Rattle.logic.specs.Laws.Bools.{and-left, and-ended, clash}
-use Rattle.words.specs.Laws.Fields.{Alike, header-is-live, type-of-header, model-of-header, alike-with, alike-without, flagged-with, flagged-without}
+use Rattle.words.specs.Laws.Fields.{Alike, header-is-live, alike-with, alike-without, flagged-with, flagged-without}
 use Rattle.dictionary.specs.declared.answers.Attribute.{Attribute}
 use Rattle.dictionary.specs.declared.answers.Attribute.the-variants.{Lacking, Whole, Reference}
 use Rattle.dictionary.specs.Dictionary.{isReference, attributeOf}
@@ -29,15 +29,8 @@ use Rattle.promises.specs.Keeps.Facts.{SoundTable}
 use Rattle.promises.specs.Keeps.Frame.{same-or-not, live-not-free}
 use Rattle.promises.specs.Keeps.Edited.{Rest}
 use Rattle.promises.specs.Keeps.Written.{written, written-header, written-value, written-others, written-rest}
-use Rattle.history.specs.Live.{names, undoes}
-use Rattle.history.specs.Proofs.Told.{shown, EntryAfter, ValueAfter, same, put, unset, After, shape, not-made, not-joined, not-put, entry-kept, member-kept, value-kept}
-
--- the type and the model that a header shows
-pub shown-type : (h : ℕ) → typeIn (shown Instance h) ≡ typeIn h
-shown-type h = type-of-header (typeIn h) (modelIn h) 0 (omega arith) (omega arith) (omega arith)
-
-pub shown-model : (h : ℕ) → modelIn (shown Instance h) ≡ modelIn h
-shown-model h = model-of-header (typeIn h) (modelIn h) 0 (omega arith) (omega arith) (omega arith)
+use Rattle.history.specs.Proofs.Saying.{names, partedBy, undoneBy}
+use Rattle.history.specs.Proofs.Told.{shown, shown-type, EntryAfter, MemberAfter, ValueAfter, same, put, unset, After, shape, not-made, not-joined, not-put, entry-kept, member-kept, value-kept}
 
 -- a number that is no attribute's has no flag
 pub no-flag-past : (h j : ℕ) → values ≤ j → flagged h j ≡ false
@@ -78,6 +71,9 @@ module _ (t : List ℕ) (h : SoundTable t) (i k : ℕ) (live : isLive t Instance
       by-cases (inl e) = rw (← e) (same (rw header live-now) (rw (header, alike .types, alike .models)) (λ first. not-made c p) (λ q. none Instance i _))
       by-cases (inr e) = entry-kept c _ _ Instance n (rest .others Instance n 0 (λ a b. e b)) (λ first. not-made c p) (λ q. none Instance n _)
 
+  changed-member : (c : Change) → eqb (shape c) 2 ≡ false → ((s m : ℕ) → partedBy s m c ≡ false) → (s m : ℕ) → MemberAfter c (wordOf t) (wordOf (written t i k v h′)) s m
+  changed-member c p none s m = member-kept c _ _ s m (rest .others SchemaInstance s 1 (λ e q. kinds-apart e refl)) (not-joined c p) (λ q. none s m)
+
   all-flags : (j : ℕ) → (j ≡ k → ⊥) → flagged h′ j ≡ flagged (headerAt t i) j
   all-flags j apart = by-cases (decLt j values)
     where
@@ -87,7 +83,7 @@ module _ (t : List ℕ) (h : SoundTable t) (i k : ℕ) (live : isLive t Instance
 
   -- the other attributes
   others-kept : (c : Change) (n j : ℕ) → (i ≡ n → k ≡ j → ⊥) → ((u : ℕ) → c ≡ Put n j u → ⊥)
-      → ((a b u : ℕ) → undoes n j u a b c ≡ false) → ValueAfter c (wordOf t) (wordOf (written t i k v h′)) n j
+      → ((a b u : ℕ) → undoneBy n j u a b c ≡ false) → ValueAfter c (wordOf t) (wordOf (written t i k v h′)) n j
   others-kept c n j apart none keeps = by-cases (same-or-not i n)
     where
       by-cases : (i ≡ n) ⊎ (i ≡ n → ⊥) → ValueAfter c (wordOf t) (wordOf (written t i k v h′)) n j
@@ -145,7 +141,7 @@ module _ (t : List ℕ) (h : SoundTable t) (i k : ℕ) (live : isLive t Instance
     unfolding apply
     put-after = record {
       entries = changed-entry t h i k live hk v (withFlag (headerAt t i) k) (alike-with (headerAt t i) k hk) flags-with (Put i k v) refl (λ kind n first. refl);
-      members = λ s m. member-kept _ _ _ s m (rest t h i k live hk v (withFlag (headerAt t i) k) (alike-with (headerAt t i) k hk) flags-with .others SchemaInstance s 1 (λ e q. kinds-apart e refl)) (not-joined (Put i k v) refl) (λ q. refl);
+      members = changed-member t h i k live hk v (withFlag (headerAt t i) k) (alike-with (headerAt t i) k hk) flags-with (Put i k v) refl (λ s m. refl);
       attributes = put-value;
     }
 
@@ -167,6 +163,6 @@ module _ (t : List ℕ) (h : SoundTable t) (i k : ℕ) (live : isLive t Instance
   unfolding apply
   unset-after = record {
     entries = changed-entry t h i k live hk 0 (withoutFlag (headerAt t i) k) (alike-without (headerAt t i) k hk) flags-without (Unset i k) refl (λ kind n first. refl);
-    members = λ s m. member-kept _ _ _ s m (rest t h i k live hk 0 (withoutFlag (headerAt t i) k) (alike-without (headerAt t i) k hk) flags-without .others SchemaInstance s 1 (λ e q. kinds-apart e refl)) (not-joined (Unset i k) refl) (λ q. refl);
+    members = changed-member t h i k live hk 0 (withoutFlag (headerAt t i) k) (alike-without (headerAt t i) k hk) flags-without (Unset i k) refl (λ s m. refl);
     attributes = unset-value;
   }

@@ -11,7 +11,7 @@ use borrow.Author.Tests.{eq-eqb, ne-eqb, eqb-true}
 use Rattle.tables.specs.Laws.Sound.{live-below}
 use Rattle.words.specs.declared.layout.Kind.{Kind}
 use Rattle.words.specs.declared.layout.Kind.the-variants.{Model, SchemaInstance, Instance}
-use Rattle.words.specs.Layout.{countOf}
+use Rattle.words.specs.Layout.{countOf, indexOf}
 use Rattle.words.specs.Sets.{none, has}
 use Rattle.words.specs.Fields.{typeIn, values, isFree, flagged}
 use Rattle.words.specs.Entries.{wordOf}
@@ -28,9 +28,10 @@ use Rattle.tables.specs.Changes.{apply}
 use Rattle.promises.specs.Keeps.Facts.{SoundTable}
 use Rattle.promises.specs.Keeps.Frame.{same-or-not, not-free-live}
 use Rattle.promises.specs.Keeps.Swept.{Same, Unset, Rid, Sweep, sweeps}
-use Rattle.history.specs.Live.{names, refersBy, undoes}
-use Rattle.history.specs.Proofs.Told.{Words, shown, EntryAfter, gone, ValueAfter, same, unset, Holding, After, shape, not-made, not-joined, not-put, entry-kept, member-kept, value-kept}
-use Rattle.history.specs.Proofs.Attributes.{shown-type, no-flag-past}
+use Rattle.history.specs.Proofs.Saying.{names, refersBy, undoneBy}
+use Rattle.history.specs.Proofs.Told.{Words, shown, shown-type, EntryAfter, gone, ValueAfter, same, unset, Holding, After, shape}
+use Rattle.history.specs.Proofs.Told.{not-made, not-joined, not-put, entry-kept, member-kept, value-kept}
+use Rattle.history.specs.Proofs.Attributes.{no-flag-past}
 use Rattle.history.specs.Proofs.Sweeping.{swept-keeps}
 
 pub eqb-turned : (a b : ℕ) → eqb a b ≡ eqb b a
@@ -52,7 +53,7 @@ module _ (c : Change) (t : List ℕ) (h : SoundTable t) (goes : ℕ → Bool) (e
     (words-are : (i k : ℕ) → e′ Instance i k ≡ wordOf (swept t goes (countOf Instance)) Instance i k)
     (unmade : eqb (shape c) 0 ≡ false) (no-put : eqb (shape c) 4 ≡ false)
     (named : (n : ℕ) → isLive t Instance n ≡ true → names c Instance n (shown Instance (headerAt t n)) ≡ goes n)
-    (undone : (i k header target : ℕ) → Holding (wordOf t) i k header target → undoes i k (valueAt t i k) header target c ≡ (goes i || (refersBy header k && goes (valueAt t i k)))) where
+    (undone : (i k header target : ℕ) → Holding (wordOf t) i k header target → undoneBy i k (valueAt t i k) header target c ≡ (goes i || (refersBy header k && goes (valueAt t i k)))) where
   w : Sweep goes (countOf Instance) t (swept t goes (countOf Instance))
   w = sweeps goes t (countOf Instance) (omega arith) (h .long)
 
@@ -126,20 +127,22 @@ module _ (t : List ℕ) (h : SoundTable t) (j : ℕ) where
   named-deleted n live = or-false (eqb j n) ∙ eqb-turned j n
 
   undone-deleted : (i k header target : ℕ) → Holding (wordOf t) i k header target
-      → undoes i k (valueAt t i k) header target (Gone Instance j) ≡ (goesWith t Instance j i || (refersBy header k && goesWith t Instance j (valueAt t i k)))
+      → undoneBy i k (valueAt t i k) header target (Gone Instance j) ≡ (goesWith t Instance j i || (refersBy header k && goesWith t Instance j (valueAt t i k)))
   undone-deleted i k header target q = rw (or-false (eqb j i), or-false (eqb j (valueAt t i k)), eqb-turned j i, eqb-turned j (valueAt t i k))
 
+  others-stay : (kind : Kind) (n k : ℕ) → eqb (indexOf Instance) (indexOf kind) ≡ false
+      → wordOf (swept t (goesWith t Instance j) (countOf Instance)) kind n k ≡ wordOf t kind n k
+  others-stay kind n k apart = sweeps (goesWith t Instance j) t (countOf Instance) (omega arith) (h .long) .others kind n k (λ e l. kinds-apart e apart)
+
   deleted-entry : (kind : Kind) (n : ℕ) → EntryAfter (Gone Instance j) (wordOf t) (wordOf (swept t (goesWith t Instance j) (countOf Instance))) kind n
-  deleted-entry Model n =
-      entry-kept _ _ _ Model n (sweeps (goesWith t Instance j) t (countOf Instance) (omega arith) (h .long) .others Model n 0 (λ e l. kinds-apart e refl)) (λ first. not-made (Gone Instance j) refl) (λ q. refl)
-  deleted-entry SchemaInstance n =
-      entry-kept _ _ _ SchemaInstance n (sweeps (goesWith t Instance j) t (countOf Instance) (omega arith) (h .long) .others SchemaInstance n 0 (λ e l. kinds-apart e refl)) (λ first. not-made (Gone Instance j) refl) (λ q. refl)
+  deleted-entry Model n = entry-kept _ _ _ Model n (others-stay Model n 0 refl) (λ first. not-made (Gone Instance j) refl) (λ q. refl)
+  deleted-entry SchemaInstance n = entry-kept _ _ _ SchemaInstance n (others-stay SchemaInstance n 0 refl) (λ first. not-made (Gone Instance j) refl) (λ q. refl)
   deleted-entry Instance n = swept-entry (Gone Instance j) t h (goesWith t Instance j) _ (λ i k. refl) refl refl named-deleted undone-deleted n
 
   pub deleted-after : After (Gone Instance j) (wordOf t) (wordOf (apply (Gone Instance j) t))
   unfolding apply
   deleted-after = record {
     entries = deleted-entry;
-    members = λ s m. member-kept _ _ _ s m (sweeps (goesWith t Instance j) t (countOf Instance) (omega arith) (h .long) .others SchemaInstance s 1 (λ e l. kinds-apart e refl)) (not-joined (Gone Instance j) refl) (λ q. refl);
+    members = λ s m. member-kept _ _ _ s m (others-stay SchemaInstance s 1 refl) (not-joined (Gone Instance j) refl) (λ q. refl);
     attributes = λ i k. swept-value (Gone Instance j) t h (goesWith t Instance j) _ (λ a b. refl) refl refl named-deleted undone-deleted i k;
   }

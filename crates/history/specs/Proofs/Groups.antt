@@ -23,7 +23,7 @@ use Rattle.tables.specs.Edits.{withSet}
 use Rattle.tables.specs.Changes.{apply}
 use Rattle.promises.specs.Keeps.Facts.{SoundTable}
 use Rattle.promises.specs.Keeps.Frame.{same-or-not}
-use Rattle.history.specs.Live.{refersBy}
+use Rattle.history.specs.Proofs.Saying.{refersBy}
 use Rattle.history.specs.Proofs.Told.{EntryAfter, gone, MemberAfter, same, joined, parted, After, not-made, not-joined, not-put, entry-kept, member-kept, value-kept}
 
 module _ (t : List ℕ) (h : SoundTable t) (s : ℕ) (l : s < countOf SchemaInstance) where
@@ -61,7 +61,9 @@ module _ (t : List ℕ) (h : SoundTable t) (s : ℕ) (l : s < countOf SchemaInst
   dissolved-after = record {
     entries = dissolved-entry;
     members = dissolved-member;
-    attributes = λ i k. value-kept _ _ _ i k (λ j. entry-other t SchemaInstance s _ Instance i j (λ e p. kinds-apart e refl)) (λ v. not-put (Gone SchemaInstance s) refl) (λ a b q. and-false (refersBy a k));
+    attributes = λ i k.
+        value-kept _ _ _ i k (λ j. entry-other t SchemaInstance s _ Instance i j (λ e p. kinds-apart e refl))
+        (λ v. not-put (Gone SchemaInstance s) refl) (λ a b q. and-false (refersBy a k));
   }
 
   -- ---- a set changed

@@ -1,94 +1,114 @@
 -- The working table tells what remains, and the kept one what would remain of a drop.
 use Prim.Native.Nat.{ℕ}
-use mathlib.Core.Path.{_≡_, refl, ap, subst}
-use mathlib.Core.List.{List, [], _∷_}
+use mathlib.Core.Path.{_≡_, refl, ap, subst, _∙_}
+use mathlib.Core.Bool.{Bool, true, false, cond, not, _||_, or-false}
+use mathlib.Core.Logic.{⊎-elim}
+use mathlib.Core.List.{List, [], _∷_, _++_}
 use native.Mathlib.Omega.{arith}
+use lib.Dec.{eqb}
 use borrow.Author.Tests.{ne-eqb}
 use Rattle.logic.specs.Laws.Bools.{clash}
+use Rattle.words.specs.declared.layout.Kind.{Kind}
 use Rattle.words.specs.declared.layout.Kind.the-variants.{SchemaInstance, Instance}
 use Rattle.words.specs.Sets.{none, has}
 use Rattle.words.specs.Fields.{isFree, flagged}
 use Rattle.words.specs.Entries.{wordOf}
 use Rattle.words.specs.Laws.Sets.{has-none}
 use Rattle.words.specs.Laws.Copies.{Agreeing, agree-entries}
-use Rattle.tables.specs.declared.changes.Change.{Change}
+use Rattle.session.specs.declared.state.State.{State}
 use Rattle.session.specs.declared.effects.Tables.{Tables}
 use Rattle.session.specs.Refusals.{done}
 use Rattle.session.specs.Operations.{operationOf}
+use Rattle.session.specs.Checks.{Check, gate}
 use Rattle.session.specs.Effects.{workingAfter, keptAfter}
 use Rattle.session.specs.Step.{Outcome}
 use Rattle.session.specs.Runs.{Call, Answered, Chip, Empty, Fresh, left, answeredBy, afterBy, historyBy, outcomeOf, after, history}
 use Rattle.promises.specs.Fresh.{no-word}
 use Rattle.promises.specs.Reached.{SoundChip, reached-sound}
-use Rattle.promises.specs.Keeps.Range.{Refusing, passed}
+use Rattle.session.specs.Laws.Range.{Refusing, Clear, passed}
 use Rattle.promises.specs.Keeps.Ways.{Way, unsound, refusing, doing, way}
 use Rattle.promises.specs.Keeps.Facts.{SoundTable}
 use Rattle.promises.specs.Keeps.SessionFacts.{Sound, sound-test}
 use Rattle.promises.specs.Keeps.Copied.{copy-agrees, turned}
-use Rattle.history.specs.Remains.{Said, silent, changes, commits, drops, said, Fate, pending, committed, dropped, further, remainingIf}
-use Rattle.history.specs.Live.{Live, Member, SetTo}
+use Rattle.history.specs.Remains.{drops, remainingIf}
+use Rattle.history.specs.Live.{Member, SetTo}
+use Rattle.history.specs.Demand3.{Asked, creationOf}
+use Rattle.history.specs.Proofs.Saying.{Said, saying}
+use Rattle.history.specs.Proofs.Reading.{Tests, asked, told, isDrop, isCommit, wordAsked, gave-number, creation-is, doneBy, reads}
 use Rattle.history.specs.Proofs.Since.{since-nothing}
-use Rattle.history.specs.Proofs.Told.{Words, Told, told-on}
+use Rattle.history.specs.Proofs.Told.{Words, Told, told-on, told-past}
 use Rattle.history.specs.Proofs.Deleting.{no-flag-free}
-use Rattle.history.specs.Proofs.Speaking.{Speaks, quiet, change, commit, commit-clean, drop, drop-clean, speaks}
+use Rattle.history.specs.Proofs.Speaking.{Speaks, quiet, change, commit, commit-clean, drop, drop-clean, speaks, creation-holds}
 
 -- ---- tables that agree tell alike
 
-pub agree-told : (a b : List ℕ) (r : List Change) → Agreeing a b → Told (wordOf a) r → Told (wordOf b) r
+pub agree-told : (a b : List ℕ) (r : List Answered) → Agreeing a b → Told (wordOf a) r → Told (wordOf b) r
 agree-told a b r h t = subst (λ (e : Words). Told e r) (λ i kind n k. agree-entries a b h kind n k i) t
-
--- ---- what nothing follows remains as if it were committed
-
-further-alike : (s : Said) (rest : Fate → List Change) → rest committed ≡ rest pending → further s committed rest ≡ further s pending rest
-further-alike silent rest e = e
-further-alike (changes c) rest e = ap (λ (r : List Change). c ∷ r) e
-further-alike commits rest e = refl
-further-alike drops rest e = refl
-
-pub committed-alike : (h : List Answered) → remainingIf h committed ≡ remainingIf h pending
-unfolding remainingIf
-committed-alike [] = refl
-committed-alike (x ∷ h) = further-alike (said x) (remainingIf h) (committed-alike h)
 
 -- ---- one call more
 
-record Both (w k : List ℕ) (s : Said) (h : List Answered) : Type 0 where
-  working : Told (wordOf w) (further s pending (remainingIf h))
-  kept : Told (wordOf k) (further s dropped (remainingIf h))
+record Both (w k : List ℕ) (x : Answered) (h : List Answered) : Type 0 where
+  working : Told (wordOf w) (remainingIf (x ∷ h) false)
+  kept : Told (wordOf k) (remainingIf (x ∷ h) true)
 
 module _ (w k : List ℕ) (hw : SoundTable w) (hk : SoundTable k) (h : List Answered)
-    (tw : Told (wordOf w) (remainingIf h pending)) (tk : Told (wordOf k) (remainingIf h dropped)) where
-  tc : Told (wordOf w) (remainingIf h committed)
-  tc = rw (committed-alike h) tw
+    (tw : Told (wordOf w) (remainingIf h false)) (tk : Told (wordOf k) (remainingIf h true)) where
+  -- a call that is refused is struck out
+  struck : (q : Call) (r : ℕ) → Refusing r → Both w k (record { call = q; refusal = r; value = 0 }) h
+  unfolding remainingIf
+  struck q r f =
+      let no : eqb r done ≡ false = ne-eqb r done (λ e. omega arith) in
+      record { working = rw no tw; kept = rw no tk }
 
-  spoken : (s : Said) (tables : Tables) → Speaks w k s tables → Both (workingAfter tables w k) (keptAfter tables w k) s h
-  spoken s tables quiet = record { working = tw; kept = tk }
-  spoken s tables (change c a) = record { working = told-on c (remainingIf h pending) _ _ tw a; kept = tk }
-  spoken s tables commit = record { working = tc; kept = agree-told w _ _ (copy-agrees w k hw hk) tc }
-  spoken s tables (commit-clean e) = record { working = tc; kept = agree-told w k _ e tc }
-  spoken s tables drop = record { working = agree-told k _ _ (copy-agrees k w hk hw) tk; kept = tk }
-  spoken s tables (drop-clean e) = record { working = agree-told k w _ (turned w k e) tk; kept = tk }
+  module _ (x : Answered) (was-done : x .refusal ≡ done) (fits : (kind : Kind) → x .call .op ≡ creationOf kind → Asked kind (wordAsked kind (x .call)) (x .call)) where
+    -- one that is done remains, and drops or commits what it says
+    appended : (s : Said) → asked x ≡ told s → remainingIf (x ∷ h) false ≡ x ∷ remainingIf h (isDrop s)
+    unfolding remainingIf
+    appended s r =
+        ap (λ (n : ℕ). cond (eqb n done) (x ∷ remainingIf h (drops x || false)) (remainingIf h false)) was-done
+        ∙ ap (λ (b : Bool). x ∷ remainingIf h b) (or-false (drops x) ∙ ap (λ (t : Tests). t .drops) r)
+
+    pended : (s : Said) → asked x ≡ told s → remainingIf (x ∷ h) true ≡ remainingIf h (isDrop s || not (isCommit s))
+    unfolding remainingIf
+    pended s r = rw was-done (ap (λ (t : Tests). remainingIf h (t .drops || not (t .commits))) r)
+
+    both : (s : Said) (w′ k′ : List ℕ) → asked x ≡ told s → Told (wordOf w′) (x ∷ remainingIf h (isDrop s))
+        → Told (wordOf k′) (remainingIf h (isDrop s || not (isCommit s))) → Both w′ k′ x h
+    both s w′ k′ r a b = record { working = rw (appended s r) a; kept = rw (pended s r) b }
+
+    spoken : (s : Said) (tables : Tables) → asked x ≡ told s → Speaks w k s tables → Both (workingAfter tables w k) (keptAfter tables w k) x h
+    spoken s tables r quiet = both s _ _ r (told-past x s r (λ f. refl) _ _ tw) tk
+    spoken s tables r (change c a) = both s _ _ r (told-on x c r _ _ _ tw (λ kind n g. fits kind (gave-number (creationOf kind) n x g)) a) tk
+    spoken s tables r commit = both s _ _ r (told-past x s r (λ f. refl) _ _ tw) (agree-told w _ _ (copy-agrees w k hw hk) tw)
+    spoken s tables r (commit-clean e) = both s _ _ r (told-past x s r (λ f. refl) _ _ tw) (agree-told w k _ e tw)
+    spoken s tables r drop = both s _ _ r (told-past x s r (λ f. refl) _ _ (agree-told k _ _ (copy-agrees k w hk hw) tk)) tk
+    spoken s tables r (drop-clean e) = both s _ _ r (told-past x s r (λ f. refl) _ _ (agree-told k w _ (turned w k e) tk)) tk
 
 pub record Holds (chip : Chip) (h : List Answered) : Type 0 where
-  pub working : Told (wordOf (chip .working)) (remainingIf h pending)
-  pub kept : Told (wordOf (chip .kept)) (remainingIf h dropped)
+  pub working : Told (wordOf (chip .working)) (remainingIf h false)
+  pub kept : Told (wordOf (chip .kept)) (remainingIf h true)
+
+-- a number that no operation has does not pass the gate
+reads-done : (q : Call) (value : ℕ) (s : State) (rest : List Check) → Clear (gate (operationOf (q .op)) s ++ rest)
+    → asked (doneBy q value) ≡ told (saying (operationOf (q .op)) (q .a) (q .b) (q .c) value)
+unfolding Clear
+reads-done q value s rest p = ⊎-elim (λ u. clash true refl ((rw u at p) .0)) (λ r. r) (reads q value)
 
 module _ (q : Call) (chip : Chip) (h : List Answered) (good : SoundChip chip) (w : Holds chip h) where
-  silenced : (r value : ℕ) → Refusing r → said (record { call = q; refusal = r; value = value }) ≡ silent
-  silenced r value f = rw (ne-eqb r done (λ e. omega arith))
+  facts : Sound (chip .session) (chip .working) (chip .kept)
+  facts = sound-test (chip .session) (chip .working) (chip .kept) .holds good
 
-  by-way : (o : Outcome) → Way (q .op) (q .a) (q .b) (q .c) (chip .session) (chip .working) (chip .kept) o
-      → Both (o .working) (o .kept) (said (answeredBy q o)) h
+  by-way : (o : Outcome) → Way (q .op) (q .a) (q .b) (q .c) (chip .session) (chip .working) (chip .kept) o → Both (o .working) (o .kept) (answeredBy q o) h
   by-way o (unsound u) = clash _ good u
-  by-way o (refusing r s f) = rw (silenced r 0 f) (record { working = w .working; kept = w .kept })
+  by-way o (refusing r s f) = struck (chip .working) (chip .kept) (facts .tables .working) (facts .tables .kept) h (w .working) (w .kept) q r f
   by-way o (doing s p e) =
-      let facts : Sound (chip .session) (chip .working) (chip .kept) = sound-test (chip .session) (chip .working) (chip .kept) .holds good in
-      spoken (chip .working) (chip .kept) (facts .tables .working) (facts .tables .kept) h (w .working) (w .kept) _ _
-      (speaks (q .a) (q .b) (q .c) (chip .session) (chip .working) (chip .kept) facts (q .small) (operationOf (q .op))
-      (passed (operationOf (q .op)) (q .a) (q .b) (q .c) (chip .session .state) (chip .working) p) e)
+      let clear = passed (operationOf (q .op)) (q .a) (q .b) (q .c) (chip .session .state) (chip .working) p in
+      spoken (chip .working) (chip .kept) (facts .tables .working) (facts .tables .kept) h (w .working) (w .kept) (doneBy q _) refl
+      (λ kind o. creation-holds q (chip .session .state) (chip .working) kind (rw (o, creation-is kind) at clear)) _ _
+      (reads-done q _ (chip .session .state) _ clear)
+      (speaks (q .a) (q .b) (q .c) (chip .session) (chip .working) (chip .kept) facts (q .small) (operationOf (q .op)) clear e)
 
   called : Holds (left (outcomeOf chip q)) (answeredBy q (outcomeOf chip q) ∷ h)
-  unfolding remainingIf
   called =
       let b = by-way (outcomeOf chip q) (way (q .op) (q .a) (q .b) (q .c) (chip .session) (chip .working) (chip .kept)) in
       record { working = b .working; kept = b .kept }
@@ -97,9 +117,10 @@ module _ (q : Call) (chip : Chip) (h : List Answered) (good : SoundChip chip) (w
 
 module _ (t : List ℕ) (h : Empty t) where
   empty-told : Told (wordOf t) []
-  unfolding Live Member SetTo
+  unfolding Member SetTo
   empty-told = record {
-    entries = λ kind n first. ((λ s. absurd (since-nothing s)), (λ w. clash (isFree 0) refl (rw (no-word t h kind n 0) at (w .live))));
+    live = λ kind n l. clash (isFree 0) refl (rw (no-word t h kind n 0) at l);
+    made-by = λ kind n q s. absurd (since-nothing s);
     members = λ s m. ((λ x. absurd (since-nothing x)), (λ w. clash (has none m) (rw (no-word t h SchemaInstance s 1) at w) (has-none m)));
     attributes = λ i k v. ((λ x. absurd (since-nothing (x .2))), (λ w. clash (flagged 0 k) (rw (no-word t h Instance i 0) at (w .set)) (no-flag-free k)));
   }

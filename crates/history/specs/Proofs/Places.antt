@@ -1,40 +1,66 @@
 -- Creations and deletions after any list of calls from a fresh chip.
 use Prim.Native.Nat.{ℕ, _<_}
-use mathlib.Core.Path.{_≡_, ap, _∙_}
-use mathlib.Core.Bool.{true}
-use mathlib.Core.Logic.{_↔_}
-use mathlib.Core.List.{List, _∷_}
+use mathlib.Core.Path.{_≡_, refl, ap, sym, _∙_}
+use mathlib.Core.Bool.{Bool, true, false, cond, not}
+use mathlib.Core.Logic.{_↔_, ⊎-elim}
+use mathlib.Core.List.{List, [], _∷_}
 use native.Mathlib.Omega.{arith}
-use borrow.Author.Tests.{eq-eqb}
+use lib.Dec.{eqb}
+use borrow.Author.Tests.{eq-eqb, ne-eqb}
+use Rattle.logic.specs.Search.{allIn}
+use Rattle.logic.specs.Laws.Bools.{and-left, and-right, clash}
 use Rattle.words.specs.declared.layout.Kind.{Kind}
 use Rattle.words.specs.declared.layout.Kind.the-variants.{Model, SchemaInstance, Instance}
 use Rattle.words.specs.Layout.{countOf}
 use Rattle.words.specs.Entries.{wordOf, nextFree}
 use Rattle.tables.specs.View.{isLive}
-use Rattle.tables.specs.declared.changes.Change.the-variants.{Gone}
+use Rattle.session.specs.declared.operations.Operation.{Operation}
+use Rattle.session.specs.declared.operations.Operation.the-variants as operation
+use Rattle.session.specs.declared.state.State.{State}
 use Rattle.session.specs.declared.effects.Effect.{Effect}
 use Rattle.session.specs.Refusals.{NO-ROOM, done}
 use Rattle.session.specs.Operations.{operationOf}
 use Rattle.session.specs.Effects.{created}
-use Rattle.session.specs.Rows.{effect}
-use Rattle.promises.specs.Keeps.Frame.{not-free-live}
+use Rattle.session.specs.Checks.{Check, firstOf}
+use Rattle.session.specs.Rows.{refusalOf, effect}
+use Rattle.session.specs.Step.{Outcome, core}
+use Rattle.promises.specs.Core.{core-on-sound}
+use Rattle.promises.specs.Keeps.Frame.{same-or-not, not-free-live}
 use Rattle.session.specs.Runs.{Call, Answered, Chip, Fresh, answeredBy, historyBy, outcomeOf, after, history}
 use Rattle.promises.specs.Reached.{reached-sound}
-use Rattle.history.specs.Remains.{changes, said, pending, remainingIf, remaining}
-use Rattle.history.specs.Live.{Full}
-use Rattle.history.specs.Demand3.{deletionOf, Creates, Takes, Deletes, lastOf}
+use Rattle.history.specs.Remains.{remainingIf, remaining}
+use Rattle.history.specs.Demand3.{Full, creationOf, Creates, Takes, Deletes, lastOf}
+use Rattle.history.specs.Proofs.Saying.{firstWord}
+use Rattle.history.specs.Proofs.Reading.{creator, creation-is}
+use Rattle.history.specs.Proofs.Since.{lives}
 use Rattle.history.specs.Proofs.Told.{Told}
 use Rattle.history.specs.Proofs.Kept.{holds}
-use Rattle.history.specs.Proofs.Room.{firstWord, creation-told, refusal-told, value-told, room-told, has-room, takes-free, saying-deletion, freed-found}
-
--- a done deletion says so
-deletes-said : (kind : Kind) (x : Answered) → operationOf (x .call .op) ≡ deletionOf kind → x .refusal ≡ done → said x ≡ changes (Gone kind (x .call .a))
-deletes-said kind x o e = rw (eq-eqb (x .refusal) done e, o) (saying-deletion kind (x .call .a) (x .call .b) (x .call .c) (x .value))
+use Rattle.history.specs.Proofs.Room.{creation-told, refusal-told, value-told, room-told, has-room, takes-free, deletion-remains, freed-found}
 
 pub last-below : (kind : Kind) → lastOf kind < countOf kind
 last-below Model = omega arith
 last-below SchemaInstance = omega arith
 last-below Instance = omega arith
+
+-- ---- no check of a creation refuses with NO_ROOM
+
+other : Check → Bool
+other check = not (eqb (check .refusal) NO-ROOM)
+
+never : (l : List Check) → allIn other l ≡ true → firstOf l ≡ NO-ROOM → ⊥
+unfolding firstOf allIn other
+never [] h e = omega (arith, e)
+never (check ∷ l) h e = by-condition (check .condition) (λ q. never l (and-right (other check) (allIn other l) h) q) e
+  where
+    by-condition : (b : Bool) → (firstOf l ≡ NO-ROOM → ⊥) → cond b (check .refusal) (firstOf l) ≡ NO-ROOM → ⊥
+    by-condition true later q = clash (not (eqb (check .refusal) NO-ROOM)) (and-left (other check) (allIn other l) h) (rw (eq-eqb (check .refusal) NO-ROOM q))
+    by-condition false later q = later q
+
+no-check : (kind : Kind) (a b c : ℕ) (s : State) (w : List ℕ) → refusalOf (operation.Writer (creator kind)) a b c s w ≡ NO-ROOM → ⊥
+unfolding refusalOf allIn other
+no-check Model a b c s w e = never _ refl e
+no-check SchemaInstance a b c s w e = never _ refl e
+no-check Instance a b c s w e = never _ refl e
 
 module _ (begun : Chip) (fresh : Fresh begun) (calls : List Call) where
   module _ (kind : Kind) (q : Call) (h : Creates kind (after begun calls) q) where
@@ -44,7 +70,9 @@ module _ (begun : Chip) (fresh : Fresh begun) (calls : List Call) where
     -- a creation has the effect of one of its kind
     of-kind : effect (operationOf (q .op)) (q .a) (q .b) (q .c) (chip .session .state) (chip .working)
         ≡ created kind (firstWord kind (q .a) (q .b) (q .c)) (chip .session .state) (chip .working)
-    of-kind = rw (h .operation) (creation-told kind (q .a) (q .b) (q .c) (chip .session .state) (chip .working))
+    of-kind =
+        ap (λ (o : Operation). effect o (q .a) (q .b) (q .c) (chip .session .state) (chip .working)) (ap operationOf (h .operation) ∙ creation-is kind)
+        ∙ creation-told kind (q .a) (q .b) (q .c) (chip .session .state) (chip .working)
 
     refuses : outcomeOf (after begun calls) q .answer .refusal ≡ created kind (firstWord kind (q .a) (q .b) (q .c)) (chip .session .state) (chip .working) .refusal
     unfolding chip
@@ -76,24 +104,32 @@ module _ (begun : Chip) (fresh : Fresh begun) (calls : List Call) where
     unfolding chip
     takes-free-place n l e = rw e at (takes-next (omega arith))
 
+  -- a creation that is refused with NO_ROOM passed its other checks
+  pub full-when-refused : (kind : Kind) (q : Call) → q .op ≡ creationOf kind → outcomeOf (after begun calls) q .answer .refusal ≡ NO-ROOM
+      → Full kind (remaining (history begun calls))
+  unfolding core
+  full-when-refused kind q o e =
+      let now = after begun calls in
+      let r = refusalOf (operationOf (q .op)) (q .a) (q .b) (q .c) (now .session .state) (now .working) in
+      let goes = core-on-sound (q .op) (q .a) (q .b) (q .c) (now .session) (now .working) (now .kept) (reached-sound begun fresh calls) in
+      ⊎-elim (λ z. refused-when-full kind q (record { operation = o; passes = z }) .0 e)
+      (λ z. absurd (no-check kind (q .a) (q .b) (q .c) (now .session .state) (now .working)
+      (rw (o, creation-is kind) at (rw (ne-eqb r done z) at (rw (ne-eqb r done z) at (ap (λ (x : Outcome). x .answer .refusal) (sym goes) ∙ e))))))
+      (same-or-not r done)
+
   -- in a full table every place is live
   pub live-when-full : (kind : Kind) (n : ℕ) → n < countOf kind → Full kind (remaining (history begun calls)) → isLive (after begun calls .working) kind n ≡ true
   unfolding Full remaining
   live-when-full kind n l f =
       let x = f n l in
-      not-free-live (after begun calls .working) kind n (holds begun fresh calls .working .entries kind n (x .0) .0 (x .1) .live)
-
-  -- what the words tell after a done deletion
-  deleted-told : (kind : Kind) (n : ℕ) (q : Call) → Deletes kind n (after begun calls) q
-      → Told (wordOf (after begun (q ∷ calls) .working)) (Gone kind n ∷ remainingIf (history begun calls) pending)
-  unfolding remainingIf historyBy
-  deleted-told kind n q d =
-      let x : Answered = answeredBy q (outcomeOf (after begun calls) q) in
-      let e : said x ≡ changes (Gone kind n) = deletes-said kind x (d .operation) (d .was-done) ∙ ap (λ (m : ℕ). changes (Gone kind m)) (d .number) in
-      rw e at (holds begun fresh (q ∷ calls) .working)
+      not-free-live (after begun calls .working) kind n (holds begun fresh calls .working .made-by kind n (x .0) (lives kind n (x .0) _ (x .1)) .entry .live)
 
   -- the place that a deletion frees in a full table is the next free one
   pub freed-is-found : (kind : Kind) (n : ℕ) → n < countOf kind → Full kind (remaining (history begun calls)) → (q : Call)
       → Deletes kind n (after begun calls) q → nextFree (after begun (q ∷ calls) .working) kind ≡ n
-  unfolding remaining
-  freed-is-found kind n l f q d = freed-found kind n l (after begun (q ∷ calls) .working) (remainingIf (history begun calls) pending) (deleted-told kind n q d) f
+  unfolding remaining historyBy
+  freed-is-found kind n l f q d =
+      let x : Answered = answeredBy q (outcomeOf (after begun calls) q) in
+      let there : Told (wordOf (after begun (q ∷ calls) .working)) (x ∷ remainingIf (history begun calls) false) =
+      rw (deletion-remains kind x (d .was-done) (d .operation) (history begun calls)) at (holds begun fresh (q ∷ calls) .working) in
+      freed-found kind x (d .operation) (rw (d .number) l) (after begun (q ∷ calls) .working) _ there f ∙ d .number

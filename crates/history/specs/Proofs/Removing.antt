@@ -27,9 +27,8 @@ use Rattle.logic.specs.Laws.Bools.{clash}
 use Rattle.promises.specs.Keeps.Facts.{SoundTable}
 use Rattle.promises.specs.Keeps.Frame.{same-or-not}
 use Rattle.promises.specs.Keeps.Swept.{Sweep, sweeps}
-use Rattle.history.specs.Live.{names, refersBy, undoes}
-use Rattle.history.specs.Proofs.Told.{shown, Entry, EntryAfter, gone, MemberAfter, parted, same, Holding, After, not-made, not-joined, entry-kept, member-kept}
-use Rattle.history.specs.Proofs.Attributes.{shown-model}
+use Rattle.history.specs.Proofs.Saying.{names, refersBy, undoneBy}
+use Rattle.history.specs.Proofs.Told.{shown, shown-model, Entry, EntryAfter, gone, MemberAfter, parted, same, Holding, After, not-made, not-joined, entry-kept, member-kept}
 use Rattle.history.specs.Proofs.Deleting.{eqb-turned, swept-entry, swept-value}
 
 -- ---- a model leaves all sets
@@ -134,7 +133,7 @@ module _ (t : List ℕ) (h : SoundTable t) (m : ℕ) (here : m < countOf Model) 
       live-told false p = refl
 
   undone-removed : (i k header target : ℕ) → Holding (wordOf t) i k header target
-      → undoes i k (valueAt t i k) header target (Gone Model m) ≡ (goesWith t Model m i || (refersBy header k && goesWith t Model m (valueAt t i k)))
+      → undoneBy i k (valueAt t i k) header target (Gone Model m) ≡ (goesWith t Model m i || (refersBy header k && goesWith t Model m (valueAt t i k)))
   undone-removed i k header target q = rw (its-model i header (q .own)) (ap (λ (b : Bool). goesWith t Model m i || b) (by-cases (refersBy header k) refl))
     where
       by-cases : (b : Bool) → refersBy header k ≡ b → (b && eqb m (modelIn target)) ≡ (b && goesWith t Model m (valueAt t i k))

@@ -11,11 +11,8 @@ use borrow.Author.Tests.{eq-eqb, ne-eqb, lt-ltb, le-ltb}
 use Rattle.words.specs.declared.layout.Kind.{Kind}
 use Rattle.words.specs.declared.layout.Kind.the-variants.{Model, SchemaInstance, Instance}
 use Rattle.words.specs.Layout.{countOf}
-use Rattle.words.specs.Fields.{labelOf, headerOf}
 use Rattle.words.specs.Entries.{wordOf, freeAt, nextFree}
 use Rattle.words.specs.Laws.Entries.{next-is-free, next-found, next-nowhere}
-use Rattle.tables.specs.declared.changes.Change.{Change}
-use Rattle.tables.specs.declared.changes.Change.the-variants.{Gone}
 use Rattle.session.specs.declared.operations.Operation.the-variants as operation
 use Rattle.session.specs.declared.state.State.{State}
 use Rattle.session.specs.declared.state.Session.{Session}
@@ -29,11 +26,14 @@ use Rattle.session.specs.Step.{Outcome, finished, core, step}
 use Rattle.promises.specs.Core.{core-on-sound}
 use Rattle.logic.specs.Laws.Bools.{clash}
 use Rattle.promises.specs.Keeps.Frame.{same-or-not}
-use Rattle.history.specs.Live.{still, Live, Full, names}
-use Rattle.history.specs.Remains.{saying, changes}
-use Rattle.history.specs.Demand3.{creationOf, deletionOf}
-use Rattle.history.specs.Proofs.Since.{since-cases}
-use Rattle.history.specs.Proofs.Told.{shown, Told, not-made}
+use Rattle.session.specs.Runs.{Call, Answered}
+use Rattle.history.specs.Remains.{gave, remainingIf}
+use Rattle.history.specs.Live.{still, Live}
+use Rattle.history.specs.Demand3.{Full, creationOf, deletionOf}
+use Rattle.history.specs.Proofs.Saying.{firstWord}
+use Rattle.history.specs.Proofs.Reading.{creator, ended}
+use Rattle.history.specs.Proofs.Since.{since-cases, lives, is-live}
+use Rattle.history.specs.Proofs.Told.{Told}
 
 -- ---- a call that passes its checks is answered as its effect says
 
@@ -54,12 +54,7 @@ module _ (op a b c : ℕ) (x : Session) (w k : List ℕ) (s : sound x w k ≡ tr
 
 -- ---- a creation, by its kind
 
-abbrev pub firstWord : Kind → ℕ → ℕ → ℕ → ℕ
-firstWord Model a b c = labelOf a b c
-firstWord SchemaInstance a b c = labelOf a b c
-firstWord Instance a b c = headerOf b a 0
-
-pub creation-told : (kind : Kind) (a b c : ℕ) (s : State) (w : List ℕ) → effect (creationOf kind) a b c s w ≡ created kind (firstWord kind a b c) s w
+pub creation-told : (kind : Kind) (a b c : ℕ) (s : State) (w : List ℕ) → effect (operation.Writer (creator kind)) a b c s w ≡ created kind (firstWord kind a b c) s w
 creation-told Model a b c s w = refl
 creation-told SchemaInstance a b c s w = refl
 creation-told Instance a b c s w = refl
@@ -75,57 +70,65 @@ module _ (kind : Kind) (first : ℕ) (s : State) (w : List ℕ) where
   wants-room l = rw (le-ltb _ _ l)
 
   -- NO_ROOM exactly if every place is live by the history
-  pub room-told : (r : List Change) → Told (wordOf w) r → (created kind first s w .refusal ≡ NO-ROOM) ↔ Full kind r
+  pub room-told : (h : List Answered) → Told (wordOf w) h → (created kind first s w .refusal ≡ NO-ROOM) ↔ Full kind h
   unfolding Full
-  room-told r t = (filled, refused)
+  room-told h t = (filled, refused)
     where
-      filled : created kind first s w .refusal ≡ NO-ROOM → (n : ℕ) → n < countOf kind → (label : ℕ) × Live kind n label r
+      filled : created kind first s w .refusal ≡ NO-ROOM → (n : ℕ) → n < countOf kind → (q : Call) × Live kind n q h
       filled e n l = by-cases (decLt (nextFree w kind) (countOf kind))
         where
-          by-cases : Dec (nextFree w kind < countOf kind) → (label : ℕ) × Live kind n label r
+          by-cases : Dec (nextFree w kind < countOf kind) → (q : Call) × Live kind n q h
           by-cases (yes m) = absurd (omega (arith, sym e ∙ has-room m))
-          by-cases (no m) = (shown kind (wordOf w kind n 0), t .entries kind n _ .1 (record { live = next-nowhere w kind (omega arith) n l; shows = refl }))
+          by-cases (no m) = let x = t .live kind n (next-nowhere w kind (omega arith) n l) in (x .0, is-live kind n (x .0) h (x .1))
 
-      refused : ((n : ℕ) → n < countOf kind → (label : ℕ) × Live kind n label r) → created kind first s w .refusal ≡ NO-ROOM
+      refused : ((n : ℕ) → n < countOf kind → (q : Call) × Live kind n q h) → created kind first s w .refusal ≡ NO-ROOM
       refused f = by-cases (decLt (nextFree w kind) (countOf kind))
         where
           by-cases : Dec (nextFree w kind < countOf kind) → created kind first s w .refusal ≡ NO-ROOM
           by-cases (yes m) =
               let x = f (nextFree w kind) m in
-              clash _ (next-is-free w kind m) (t .entries kind (nextFree w kind) (x .0) .0 (x .1) .live)
+              clash _ (next-is-free w kind m) (t .made-by kind _ (x .0) (lives kind _ (x .0) h (x .1)) .entry .live)
           by-cases (no m) = wants-room (omega arith)
 
 -- ---- one place of a full table made free
 
-deletes-one : (kind : Kind) (n j first : ℕ) → names (Gone kind n) kind j first ≡ eqb n j
-deletes-one Model n j first = refl
-deletes-one SchemaInstance n j first = refl
-deletes-one Instance n j first = or-false (eqb n j)
+-- a done deletion remains
+pub deletion-remains : (kind : Kind) (x : Answered) → x .refusal ≡ done → x .call .op ≡ deletionOf kind → (h : List Answered) → remainingIf (x ∷ h) false ≡ x ∷ remainingIf h false
+unfolding remainingIf
+deletion-remains Model x e o h = rw (e, o)
+deletion-remains SchemaInstance x e o h = rw (e, o)
+deletion-remains Instance x e o h = rw (e, o)
 
-pub saying-deletion : (kind : Kind) (a b c value : ℕ) → saying (deletionOf kind) a b c value ≡ changes (Gone kind a)
-saying-deletion Model a b c value = refl
-saying-deletion SchemaInstance a b c value = refl
-saying-deletion Instance a b c value = refl
+-- it ends the one entry of its kind, and gives none
+ends-one : (kind : Kind) (x : Answered) → x .call .op ≡ deletionOf kind → (n : ℕ) (q : Call) → ended kind n q x ≡ eqb (x .call .a) n
+ends-one Model x o n q = rw o
+ends-one SchemaInstance x o n q = rw o
+ends-one Instance x o n q = rw o (or-false _)
 
-module _ (kind : Kind) (n : ℕ) (l : n < countOf kind) (w : List ℕ) (r : List Change) (t : Told (wordOf w) (Gone kind n ∷ r)) (f : Full kind r) where
-  free-here : freeAt w kind n ≡ true
-  unfolding Live
-  free-here = by-cases (freeAt w kind n) refl
+gives-none : (kind : Kind) (x : Answered) → x .call .op ≡ deletionOf kind → (n : ℕ) → gave (creationOf kind) n x ≡ false
+gives-none Model x o n = rw o
+gives-none SchemaInstance x o n = rw o
+gives-none Instance x o n = rw o
+
+module _ (kind : Kind) (x : Answered) (o : x .call .op ≡ deletionOf kind) (l : x .call .a < countOf kind)
+    (w : List ℕ) (h : List Answered) (t : Told (wordOf w) (x ∷ h)) (f : Full kind h) where
+  free-here : freeAt w kind (x .call .a) ≡ true
+  free-here = by-cases (freeAt w kind (x .call .a)) refl
     where
-      by-cases : (b : Bool) → freeAt w kind n ≡ b → b ≡ true
-      by-cases true e = refl
-      by-cases false e =
-          ⊎-elim (λ p. absurd (not-made (Gone kind n) refl p))
-          (λ p. clash _ (deletes-one kind n n (shown kind (wordOf w kind n 0)) ∙ eq-eqb n n refl) (p .1))
-          (since-cases (t .entries kind n (shown kind (wordOf w kind n 0)) .1 (record { live = e; shows = refl })))
+      by-cases : (b : Bool) → freeAt w kind (x .call .a) ≡ b → b ≡ true
+      by-cases true z = refl
+      by-cases false z =
+          let y = t .live kind (x .call .a) z in
+          ⊎-elim (λ p. clash _ (p .0) (gives-none kind x o (x .call .a)))
+          (λ p. clash _ (ends-one kind x o (x .call .a) (y .0) ∙ eq-eqb (x .call .a) (x .call .a) refl) (p .1)) (since-cases (y .1))
 
-  live-there : (j : ℕ) → j < countOf kind → (n ≡ j → ⊥) → freeAt w kind j ≡ false
-  unfolding Live Full
+  live-there : (j : ℕ) → j < countOf kind → (x .call .a ≡ j → ⊥) → freeAt w kind j ≡ false
+  unfolding Full
   live-there j m apart =
-      let x = f j m in
-      t .entries kind j (x .0) .0 (still (x .1) (deletes-one kind n j (x .0) ∙ ne-eqb n j apart)) .live
+      let y = f j m in
+      t .made-by kind j (y .0) (still (lives kind j (y .0) h (y .1)) (ends-one kind x o j (y .0) ∙ ne-eqb (x .call .a) j apart)) .entry .live
 
-  pub freed-found : nextFree w kind ≡ n
+  pub freed-found : nextFree w kind ≡ x .call .a
   freed-found =
-      let below : nextFree w kind < countOf kind = next-found w kind n l free-here in
-      ⊎-elim (λ e. sym e) (λ apart. clash _ (next-is-free w kind below) (live-there (nextFree w kind) below apart)) (same-or-not n (nextFree w kind))
+      let below : nextFree w kind < countOf kind = next-found w kind (x .call .a) l free-here in
+      ⊎-elim (λ z. sym z) (λ apart. clash _ (next-is-free w kind below) (live-there (nextFree w kind) below apart)) (same-or-not (x .call .a) (nextFree w kind))

@@ -15,7 +15,7 @@ use Rattle.words.specs.declared.layout.Kind.the-variants.{Model, SchemaInstance
 use Rattle.words.specs.Layout.{countOf}
 use Rattle.words.specs.Fields.{labelOf, headerOf, values, isFree, flagged}
 use Rattle.words.specs.Entries.{wordOf, freeAt, nextFree}
-use Rattle.words.specs.Laws.Fields.{label-is-live, type-of-header, model-of-header, no-flag}
+use Rattle.words.specs.Laws.Fields.{name-of-label, repository-of-label, schema-of-label, label-is-live, type-of-header, model-of-header, no-flag}
 use Rattle.words.specs.Laws.Layout.{kinds-apart}
 use Rattle.words.specs.Laws.Entries.{next-is-free}
 use Rattle.words.specs.Laws.Copies.{Agreeing}
@@ -33,21 +33,26 @@ use Rattle.session.specs.declared.operations.Reader.{Reader}
 use Rattle.session.specs.declared.operations.Reader.the-variants as reader
 use Rattle.session.specs.declared.operations.Writer.{Writer}
 use Rattle.session.specs.declared.operations.Writer.the-variants as writer
+use Rattle.session.specs.declared.state.State.{State}
 use Rattle.session.specs.declared.state.Session.{Session}
+use Rattle.session.specs.declared.effects.Effect.{Effect}
 use Rattle.session.specs.declared.effects.Tables.{Tables}
 use Rattle.session.specs.declared.effects.Tables.the-variants.{Stay, Commit, Drop, Changed}
 use Rattle.session.specs.Refusals.{MO-NEXS, MO-DUP, SI-NEXS, SI-DUP, done}
 use Rattle.session.specs.States.{RW, under}
 use Rattle.session.specs.Checks.{gate}
 use Rattle.session.specs.Effects.{does, full, created, ifWriting}
+use Rattle.session.specs.Runs.{Call}
 use Rattle.session.specs.Rows.{sessionRow, readerRow, writerRow, checks, effect}
-use Rattle.promises.specs.Keeps.Range.{Clear, clear-first}
+use Rattle.session.specs.Laws.Range.{Clear, clear-first}
 use Rattle.promises.specs.Keeps.Passed.{Labelled, is-writing, in-reach, is-writable, may-write, is-labelled, put-sound}
 use Rattle.promises.specs.Keeps.Facts.{SoundTable}
 use Rattle.promises.specs.Keeps.SessionFacts.{Sound}
 use Rattle.promises.specs.Keeps.Frame.{not-free-live}
 use Rattle.promises.specs.Keeps.Group.{label-made}
-use Rattle.history.specs.Remains.{Said, silent, changes, commits, drops, sessionSays, writerSays, saying}
+use Rattle.history.specs.Demand3.{Asked}
+use Rattle.history.specs.Proofs.Saying.{Said, silent, changes, commits, drops, sessionSays, writerSays, saying}
+use Rattle.history.specs.Proofs.Reading.{creator, wordAsked}
 use Rattle.history.specs.Proofs.Told.{shown, After}
 use Rattle.history.specs.Proofs.Made.{made-after}
 use Rattle.history.specs.Proofs.Groups.{dissolved-after, joined-after, left-after}
@@ -105,14 +110,16 @@ module _ (a b c : ℕ) (x : Session) (w k : List ℕ) (h : Sound x w k) (small :
       by-cases true e = drop
       by-cases false e = drop-clean (h .tables .agreeing e)
 
+  abbrev inRoom : Kind → ℕ → Bool → Effect
+  inRoom kind first room = cond room (does (nextFree w kind) (x .state) (Changed (Made kind (nextFree w kind) first))) (full (x .state))
+
   creating : (kind : Kind) (first : ℕ) → isFree first ≡ false → shown kind first ≡ first → (kind ≡ Instance → (j : ℕ) → flagged first j ≡ false)
       → created kind first (x .state) w .refusal ≡ done
       → Speaks w k (changes (Made kind (created kind first (x .state) w .value) first)) (created kind first (x .state) w .tables)
   creating kind first live shows bare e = by-cases (ltb (nextFree w kind) (countOf kind)) refl e
     where
-      by-cases : (room : Bool) → ltb (nextFree w kind) (countOf kind) ≡ room
-          → cond room (does (nextFree w kind) (x .state) (Changed (Made kind (nextFree w kind) first))) (full (x .state)) .refusal ≡ done
-          → Speaks w k (changes (Made kind (cond room (does (nextFree w kind) (x .state) (Changed (Made kind (nextFree w kind) first))) (full (x .state)) .value) first)) (cond room (does (nextFree w kind) (x .state) (Changed (Made kind (nextFree w kind) first))) (full (x .state)) .tables)
+      by-cases : (room : Bool) → ltb (nextFree w kind) (countOf kind) ≡ room → inRoom kind first room .refusal ≡ done
+          → Speaks w k (changes (Made kind (inRoom kind first room .value) first)) (inRoom kind first room .tables)
       by-cases true l e = change _ (made-after w good kind (nextFree w kind) first (ltb-true _ _ l) (next-is-free w kind (ltb-true _ _ l)) live shows bare)
       by-cases false l e = absurd (omega arith)
 
@@ -189,3 +196,27 @@ module _ (a b c : ℕ) (x : Session) (w k : List ℕ) (h : Sound x w k) (small :
   speaks (operation.InSession o) p e = session-speaks o
   speaks (operation.Reader o) p e = reader-speaks o
   speaks (operation.Writer o) p e = writer-speaks o (is-writing o (x .state) (writerRow o a b c (x .state) w .checks) p .transacted .clear) e
+
+-- ---- the first word of a creation that passes its checks holds what it asked for
+
+module _ (q : Call) (s : State) (w : List ℕ) where
+  label-holds : (kind : Kind) → Labelled kind (q .a) (q .b) (q .c) w → Asked Model (labelOf (q .a) (q .b) (q .c)) q
+  label-holds kind l =
+      let ha : q .a < 256 = omega (arith, l .known) in
+      let hb : q .b < 256 = omega (arith, l .highest) in
+      (repository-of-label _ _ _ ha hb (q .small), schema-of-label _ _ _ ha hb (q .small), name-of-label _ _ _ ha hb (q .small))
+
+  own-checks : (o : Writer) → Clear (gate (operation.Writer o) s ++ checks (operation.Writer o) (q .a) (q .b) (q .c) s w) → Clear (writerRow o (q .a) (q .b) (q .c) s w .checks)
+  own-checks o p = is-writing o s (writerRow o (q .a) (q .b) (q .c) s w .checks) p .transacted .clear
+
+  pub creation-holds : (kind : Kind)
+      → Clear (gate (operation.Writer (creator kind)) s ++ checks (operation.Writer (creator kind)) (q .a) (q .b) (q .c) s w)
+      → Asked kind (wordAsked kind q) q
+  creation-holds Model p = label-holds Model (is-labelled Model MO-DUP (q .a) (q .b) (q .c) s w (own-checks writer.CreateModel p))
+  creation-holds SchemaInstance p =
+      label-holds SchemaInstance (is-labelled SchemaInstance SI-DUP (q .a) (q .b) (q .c) s w (own-checks writer.CreateSchemaInstance p))
+  creation-holds Instance p =
+      let l = is-writable (labelAt w Model (q .a)) MO-NEXS (q .a) s _ (own-checks writer.CreateInstance p) in
+      let ht : q .b < 255 = small-type (q .b) (not-false _ (clear-first _ _ (l .clear))) in
+      let hm : q .a < 256 = omega (arith, live-below w Model (q .a) (not-free-live w Model (q .a) (l .there))) in
+      (model-of-header (q .b) (q .a) 0 ht hm (omega arith), type-of-header (q .b) (q .a) 0 ht hm (omega arith))

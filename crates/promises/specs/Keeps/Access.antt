@@ -87,7 +87,11 @@ module _ (x : Session) (w k : List ℕ) (h : Sound x w k) (opened : isOpen (x .s
         tables = tables;
         recording = h .session .recording;
         repositories = h .session .repositories;
-        transaction = record { known = h .session .transaction .known; no-writing = λ e. none-remain (x .state .rw) a (h .session .transaction .no-writing e); no-reading = λ e. none-remain (x .state .ro) a (h .session .transaction .no-reading e) };
+        transaction = record {
+          known = h .session .transaction .known;
+          no-writing = λ e. none-remain (x .state .rw) a (h .session .transaction .no-writing e);
+          no-reading = λ e. none-remain (x .state .ro) a (h .session .transaction .no-reading e);
+        };
         access = λ m b. by-cases m b (same-or-not m a);
       })
       (h .session .log)

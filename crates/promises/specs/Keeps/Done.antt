@@ -25,7 +25,7 @@ use Rattle.session.specs.Refusals.{MO-NEXS, MO-DUP, SI-NEXS, SI-DUP, done}
 use Rattle.session.specs.States.{NONE, RO, RW, ABORTED, isOpen, under}
 use Rattle.session.specs.Checks.{gate}
 use Rattle.session.specs.Rows.{sessionRow, readerRow, writerRow, checks, effect}
-use Rattle.promises.specs.Keeps.Range.{Clear, clear-first, clear-rest}
+use Rattle.session.specs.Laws.Range.{Clear, clear-first, clear-rest}
 use Rattle.promises.specs.Keeps.Passed.{Transacted, Writing, is-transacted, is-writing, in-reach, is-writable, may-write, is-labelled, put-sound}
 use Rattle.promises.specs.Keeps.Frame.{not-free-live}
 use Rattle.promises.specs.Keeps.SessionFacts.{Sound}

@@ -53,7 +53,9 @@ module _ (t t′ : List ℕ) (n : ℕ) (h : SoundTable t) where
       model-names = distinct-edited t t′ Model n (λ i apart. other-model i 0 apart) names (h .model-names);
       groups = λ s l. group-stays t t′ s (same-group s) (λ m e live. other-model m 0 (λ p. no-set s (rw p at e) (rw p at live))) (h .groups s l);
       group-names = distinct-kept t t′ SchemaInstance (λ i. same-group i 0) (h .group-names);
-      instances = λ i l. instance-stays t t′ i (same-instance i) (λ f live. other-model (modelAt t i) 0 (λ p. no-instance i f p (rw p at live))) (λ v live. lasts-same t t′ v (same-instance v 0) live) (h .instances i l);
+      instances = λ i l.
+          instance-stays t t′ i (same-instance i) (λ f live. other-model (modelAt t i) 0 (λ p. no-instance i f p (rw p at live)))
+          (λ v live. lasts-same t t′ v (same-instance v 0) live) (h .instances i l);
     }
       where
         models : (m : ℕ) → m < countOf Model → (m ≡ n) ⊎ (m ≡ n → ⊥) → formed Model (labelAt t′ Model m) ≡ true

@@ -67,7 +67,9 @@ instance-test : (t : List ℕ) (i : ℕ) → Decides (soundInstance t i) (SoundI
 unfolding soundInstance
 instance-test t i =
     restated
-    (choice _ _ _ (every values _ _ (λ k. equal (valueAt t i k) 0)) (both _ _ (sound-header-test t (headerAt t i)) (every values _ _ (λ k. itself (soundValue t (attributeOf (typeAt t i) k) (isSet t i k) (valueAt t i k))))))
+    (choice _ _ _
+    (every values _ _ (λ k. equal (valueAt t i k) 0))
+    (both _ _ (sound-header-test t (headerAt t i)) (every values _ _ (λ k. itself (soundValue t (attributeOf (typeAt t i) k) (isSet t i k) (valueAt t i k))))))
     (λ h. record { empty = h .0; headed = λ f. h .1 f .0; valued = λ f. h .1 f .1 })
     (λ h. (h .empty, (λ f. (h .headed f, h .valued f))))
 
@@ -84,7 +86,8 @@ pub record SoundTable (t : List ℕ) : Type 0 where
 pub table-test : (t : List ℕ) → Decides (soundTable t) (SoundTable t)
 unfolding soundTable
 table-test t =
-    let entries = both _ _ (both _ _ (both _ _ (every (countOf Model) _ _ (λ m. itself (formed Model (labelAt t Model m)))) (distinct-test t Model)) (every (countOf SchemaInstance) _ _ (group-test t))) (distinct-test t SchemaInstance) in
+    let models = both _ _ (every (countOf Model) _ _ (λ m. itself (formed Model (labelAt t Model m)))) (distinct-test t Model) in
+    let entries = both _ _ (both _ _ models (every (countOf SchemaInstance) _ _ (group-test t))) (distinct-test t SchemaInstance) in
     restated (both _ _ (both _ _ (at-most words (length t)) entries) (every (countOf Instance) _ _ (instance-test t)))
     (λ h. record { long = h .0 .0; models = h .0 .1 .0 .0 .0; model-names = h .0 .1 .0 .0 .1; groups = h .0 .1 .0 .1; group-names = h .0 .1 .1; instances = h .1 })
     (λ h. ((h .long, (((h .models, h .model-names), h .groups), h .group-names)), h .instances))

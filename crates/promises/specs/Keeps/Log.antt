@@ -15,7 +15,7 @@ use Rattle.session.specs.declared.state.Session.{Session}
 use Rattle.session.specs.States.{isOpen, places, event, blankEvent, log, added, session, noted}
 use Rattle.session.specs.Sound.{soundEvent}
 use Rattle.logic.specs.Laws.Bools.{clash}
-use Rattle.promises.specs.Keeps.Range.{Refusing, refusing-test}
+use Rattle.session.specs.Laws.Range.{Refusing, refusing-test}
 use Rattle.promises.specs.Keeps.Frame.{same-or-not}
 use Rattle.promises.specs.Keeps.SessionFacts.{SoundLog, Sound}
 
@@ -26,7 +26,9 @@ module _ (l : Log) (e : Event) (h : SoundLog l) (good : soundEvent e ≡ true) w
     few = omega arith;
     size = length-set (l .events) (l .count) e ∙ h .size;
     used = λ i b u. used i b (same-or-not i (l .count)) (ltb-true _ _ u);
-    blank = λ i b u. rw (getD-set-other (l .events) (l .count) i e blankEvent (λ q. omega (arith, ltb-false i (l .count + 1) u))) (h .blank i b (le-ltb i (l .count) (omega (arith, ltb-false i (l .count + 1) u))));
+    blank = λ i b u.
+        let behind = ltb-false i (l .count + 1) u in
+        rw (getD-set-other (l .events) (l .count) i e blankEvent (λ q. omega (arith, behind))) (h .blank i b (le-ltb i (l .count) (omega (arith, behind))));
   }
     where
       used : (i : ℕ) → i < places → (i ≡ l .count) ⊎ (i ≡ l .count → ⊥) → i < l .count + 1

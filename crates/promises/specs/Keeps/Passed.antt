@@ -23,7 +23,7 @@ use Rattle.session.specs.declared.state.State.{State}
 use Rattle.session.specs.States.{NONE, RO, ABORTED, isOpen, under}
 use Rattle.session.specs.Checks.{Check, transacted, gate}
 use Rattle.session.specs.Rows.{inReach, writable, writing, creating, referring}
-use Rattle.promises.specs.Keeps.Range.{Clear}
+use Rattle.session.specs.Laws.Range.{Clear}
 
 -- ---- the gate
 

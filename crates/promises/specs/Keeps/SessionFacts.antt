@@ -24,7 +24,9 @@ pub log-test : (l : Log) → Decides (soundLog l) (SoundLog l)
 unfolding soundLog soundPlaces
 log-test l =
     restated
-    (both _ _ (at-most (l .count) places) (both _ _ (equal (length (l .events)) places) (every places _ _ (λ i. choice (ltb i (l .count)) _ _ (itself (soundEvent (getD (l .events) i blankEvent))) (itself (isBlank (getD (l .events) i blankEvent)))))))
+    (both _ _ (at-most (l .count) places)
+    (both _ _ (equal (length (l .events)) places)
+    (every places _ _ (λ i. choice (ltb i (l .count)) _ _ (itself (soundEvent (getD (l .events) i blankEvent))) (itself (isBlank (getD (l .events) i blankEvent)))))))
     (λ h. record { few = h .0; size = h .1 .0; used = λ i b. h .1 .1 i b .0; blank = λ i b. h .1 .1 i b .1 })
     (λ h. (h .few, (h .size, λ i b. (h .used i b, h .blank i b))))
 
@@ -53,7 +55,10 @@ open-test : (x : Session) → Decides (soundOpen x) (isOpen (x .state) ≡ false
 unfolding soundOpen
 open-test x =
     restated
-    (choice (isOpen (x .state)) true _ (itself true) (both _ _ (both _ _ (both _ _ (both _ _ (equal (x .state .opened) 0) (equal (x .state .recording) 0)) (equal (x .state .transaction) NONE)) (equal (x .state .repositories) none)) (equal (x .log .count) 0)))
+    (choice (isOpen (x .state)) true _ (itself true)
+    (both _ _
+    (both _ _ (both _ _ (both _ _ (equal (x .state .opened) 0) (equal (x .state .recording) 0)) (equal (x .state .transaction) NONE)) (equal (x .state .repositories) none))
+    (equal (x .log .count) 0)))
     (λ h e. record { opened = h .1 e .0 .0 .0 .0; recording = h .1 e .0 .0 .0 .1; transaction = h .1 e .0 .0 .1; repositories = h .1 e .0 .1; count = h .1 e .1 })
     (λ h. ((λ e. refl), λ e. ((((h e .opened, h e .recording), h e .transaction), h e .repositories), h e .count)))
 
@@ -83,7 +88,11 @@ session-test : (w : List ℕ) (x : Session) → Decides (soundSession w x) (Soun
 unfolding soundSession
 session-test w x =
     restated
-    (both _ _ (both _ _ (both _ _ (both _ _ (both _ _ (open-test x) (at-most (x .state .recording) 1)) (less (x .state .repositories) 0x100)) (transaction-test (x .state))) (access-test w (x .state))) (log-test (x .log)))
+    (both _ _
+    (both _ _
+    (both _ _ (both _ _ (both _ _ (open-test x) (at-most (x .state .recording) 1)) (less (x .state .repositories) 0x100)) (transaction-test (x .state)))
+    (access-test w (x .state)))
+    (log-test (x .log)))
     (λ h. record { closed = h .0 .0 .0 .0 .0; recording = h .0 .0 .0 .0 .1; repositories = h .0 .0 .0 .1; transaction = h .0 .0 .1; access = h .0 .1; log = h .1 })
     (λ h. (((((h .closed, h .recording), h .repositories), h .transaction), h .access), h .log))
 

@@ -149,7 +149,11 @@ module _ (x : Session) (w k : List ℕ) (h : Sound x w k) where
     aborts =
         opened-sound (copied k w) k (withAccess (x .state) none none) (x .log) opened
         (record {
-          tables = record { working = copy-sound k w (h .tables .kept) (h .tables .working); kept = h .tables .kept; agreeing = λ e. turned k (copied k w) (copy-agrees k w (h .tables .kept) (h .tables .working)) };
+          tables = record {
+            working = copy-sound k w (h .tables .kept) (h .tables .working);
+            kept = h .tables .kept;
+            agreeing = λ e. turned k (copied k w) (copy-agrees k w (h .tables .kept) (h .tables .working));
+          };
           recording = h .session .recording;
           repositories = h .session .repositories;
           transaction = record { known = h .session .transaction .known; no-writing = λ e. refl; no-reading = λ e. refl };

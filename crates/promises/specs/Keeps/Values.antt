@@ -128,7 +128,10 @@ module _ (t : List ℕ) (i k v h′ : ℕ) (h : SoundTable t) (live : isLive t I
       (record {
         empty = λ e. clash _ e (live-not-free changed Instance i (now-lasts .live));
         headed = λ e. rw now-header (headed-stays t changed (headerAt t i) h′ alike (instance-same-model t changed i h now-rest (modelAt t i) 0) was-headed);
-        valued = λ e j l. rw (now-header, alike .types) (value-stays t changed (attributeOf (typeAt t i) j) (flagged h′ j) (valueAt changed i j) (all-last t changed i h now-rest (λ e. now-lasts) (valueAt changed i j)) (now-sound j l (same-or-not j k)));
+        valued = λ e j l.
+            rw (now-header, alike .types)
+            (value-stays t changed (attributeOf (typeAt t i) j) (flagged h′ j) (valueAt changed i j)
+            (all-last t changed i h now-rest (λ e. now-lasts) (valueAt changed i j)) (now-sound j l (same-or-not j k)));
       })
       (λ e. now-lasts)
 

@@ -1,5 +1,5 @@
 -- The three ways that a call goes: the state is unsound, the call is refused, or it is done.
-use mathlib.Core.Path.{_≡_, refl}
+use mathlib.Core.Path.{_≡_, refl, ap}
 use mathlib.Core.Bool.{Bool, true, false, cond}
 use mathlib.Core.Logic.{_⊎_, inl, inr}
 use mathlib.Core.List.{List}
@@ -16,7 +16,7 @@ use Rattle.session.specs.Sound.{sound}
 use Rattle.session.specs.Effects.{workingAfter, keptAfter}
 use Rattle.session.specs.Rows.{refusalOf, effect}
 use Rattle.session.specs.Step.{Outcome, answer, outcome, refusedAnswer, logAfter, finished, core, step}
-use Rattle.promises.specs.Keeps.Range.{Refusing, Full, row-fair, refusal-range}
+use Rattle.session.specs.Laws.Range.{Refusing, Refused, row-fair, refusal-range}
 
 -- what a call that is done leaves
 abbrev pub completed : Session → List ℕ → List ℕ → Effect → Outcome
@@ -41,10 +41,10 @@ module _ (op a b c : ℕ) (x : Session) (w k : List ℕ) where
   nonzero : (r : ℕ) → Refusing r → eqb r done ≡ false
   nonzero r h = ne-eqb r done (λ e. omega arith)
 
-  effect-way : sound x w k ≡ true → its-refusal ≡ done → (its-effect .refusal ≡ done) ⊎ Full its-effect → Way op a b c x w k (finished op x w k its-effect)
+  effect-way : sound x w k ≡ true → its-refusal ≡ done → (its-effect .refusal ≡ done) ⊎ Refused (x .state) its-effect → Way op a b c x w k (finished op x w k its-effect)
   unfolding its-effect its-refusal
   effect-way h p (inl e) = rw (eq-eqb (its-effect .refusal) done e) (doing h p e)
-  effect-way h p (inr e) = rw (nonzero (its-effect .refusal) (e .refuses), e .stays) (refusing (its-effect .refusal) h (e .refuses))
+  effect-way h p (inr e) = rw (nonzero (its-effect .refusal) (e .range), ap (λ (d : Effect). d .tables) (e .nothing)) (refusing (its-effect .refusal) h (e .range))
 
   core-way : sound x w k ≡ true → (its-refusal ≡ done) ⊎ Refusing its-refusal → Way op a b c x w k (core op a b c x w k)
   unfolding core its-effect its-refusal

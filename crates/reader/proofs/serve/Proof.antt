@@ -8,28 +8,30 @@ use mathlib.Core.Path.{_≡_, refl, _∙_, ap}
 use Prim.Native.Nat.{_≤_, _<_, _-_, _*_}
 use lib.ListN.{length}
 use Rattle.logic.specs.Laws.Bools.{and-right}
+use Rattle.records.specs.Records.{size}
 use Rattle.reader.proofs.serve.Statement.{statement}
 use Rattle.reader.proofs.serve.Tie as tie
 
 abbrev Inv-loop : tie.InvT-loop
-Inv-loop block₀ out₀ working₀ kept₀ run₀ turns₀ block out working kept run turns =
+Inv-loop block₀ out₀ working₀ kept₀ stand₀ turns₀ block out working kept stand turns =
     (length block ≡ length block₀)
     × (length out ≡ length out₀)
     × (length working ≡ length working₀)
     × (length kept ≡ length kept₀)
-    × (run .at ≡ 0)
-    × (run .done ≤ 1024 * turns)
+    × (stand .run .at ≡ 0)
+    × (stand .held < size)
+    × (stand .run .done ≤ 1024 * turns)
 
 abbrev μ-loop : tie.MeasureT-loop
-μ-loop block₀ out₀ working₀ kept₀ run₀ turns₀ block out working kept run turns = 0x4_0000_0000_0000 - turns
+μ-loop block₀ out₀ working₀ kept₀ stand₀ turns₀ block out working kept stand turns = 0x20_0000_0000_0000 - turns
 
-below : (c : tie.Then1 Inv-loop μ-loop) → c .before .before .loop .turns < 0x4_0000_0000_0000
-below c = ltb-true _ _ (and-right (c .before .before .loop .run .on) (ltb (c .before .before .loop .turns) 0x4_0000_0000_0000) (c .if1 .taken))
+below : (c : tie.Then1 Inv-loop μ-loop) → c .before .before .loop .turns < 0x20_0000_0000_0000
+below c = ltb-true _ _ (and-right (c .before .before .loop .stand .run .on) (ltb (c .before .before .loop .turns) 0x20_0000_0000_0000) (c .if1 .taken))
 
 loop-holds : tie.Need-loop-holds Inv-loop μ-loop
 loop-holds c = let at = ap (λ (r : Run). r .at) (c .fresh .ensures) in
     let done : c .fresh .result .done ≡ 0 = ap (λ (r : Run). r .done) (c .fresh .ensures) in
-    (refl, refl, refl, refl, at, omega arith)
+    (refl, refl, refl, refl, at, omega arith, omega arith)
 
 turn-requires : tie.Need-turn-requires Inv-loop μ-loop
 turn-requires c κs =
@@ -37,7 +39,7 @@ turn-requires c κs =
     let loop = c .before .before .before .before .before .before .loop in
     let earlier = c .before .before .before .before .before .before .before .before .before in
     let pre = earlier .before .before .before .pre in
-    (loop .inv .0 ∙ pre .0, loop .inv .1 ∙ pre .1, loop .inv .4, omega (arith, below place, loop .inv .5))
+    (loop .inv .0 ∙ pre .0, loop .inv .1 ∙ pre .1, loop .inv .4, loop .inv .5, omega (arith, below place, loop .inv .6))
 
 add-turns : tie.Need-add-turns Inv-loop μ-loop
 add-turns c =
@@ -61,7 +63,8 @@ loop-again c =
       turn .kept .1 .1 .1 .0 ∙ loop .inv .2,
       turn .kept .1 .1 .1 .1 .0 ∙ loop .inv .3,
       turn .ensures .0,
-      omega (arith, turn .ensures .1, loop .inv .5),
+      turn .ensures .1,
+      omega (arith, turn .ensures .2, loop .inv .6),
     )
 
 same-length : tie.Need-same-length Inv-loop μ-loop

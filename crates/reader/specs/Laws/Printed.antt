@@ -1,28 +1,38 @@
 -- Record after record by `core`, as the code goes, is the run of the input's calls, and the text is its lines.
 use mathlib.Core.Path.{_≡_, refl, sym, ap, _∙_}
 use mathlib.Core.Bool.{Bool, true, false, cond, _&&_}
-use mathlib.Core.List.{List, [], _∷_, _++_}
+use mathlib.Core.List.{List, [], _∷_, _++_, append-nil}
 use Prim.Native.Nat.{ℕ, zero, suc, _+_, _<_}
 use native.Mathlib.Nat.{mod-eq-of-lt}
 use native.Mathlib.Numerals.{add-one}
 use native.Mathlib.Omega.{arith}
-use lib.Dec.{leb}
-use lib.ListN.{length, drop}
-use lib.Seq.{getD-drop}
+use lib.Dec.{leb, ltb}
+use lib.ListN.{length, getD, take, drop, length-take, List·getD-eq-default}
+use lib.Seq.{getD-take, getD-drop}
+use borrow.Author.Tests.{ltb-true, ltb-false}
 use Rattle.records.specs.declared.decoding.Record.{Record}
 use Rattle.records.specs.declared.decoding.Found.{Found}
 use Rattle.records.specs.declared.decoding.Found.the-variants.{Whole, Bad}
 use Rattle.records.specs.Records.{size, marked, longAt, fieldsOf}
 use Rattle.session.specs.Step.{core}
-use Rattle.session.specs.Runs.{Call, Answered, Machine, Chip, freshChip, outcomeBy, afterBy, historyBy}
+use Rattle.session.specs.Runs.{Call, Answered, Machine, Chip, freshChip, outcomeBy, afterBy, historyBy, history}
 use Rattle.promises.specs.Fresh.{fresh-chip}
 use Rattle.promises.specs.Reached.{core-alike, same-history}
 use Rattle.reader.specs.Blocks.{Here, afterCall, afterRecord, afterBad, afterFound, afterRecords, afterBytes, afterEnd, start}
-use Rattle.reader.specs.Printed.{Input, callOf, withRecord, inputIn, inputOf, linesOf, lastLine, printed, Bytes}
+use Rattle.reader.specs.Printed.{Input, callOf, withRecord, inputIn, inputOf, linesOf, lastLine, printed, wholeIn, wholeOf, printedSoFar, Bytes}
+use Rattle.reader.specs.Reads.{joined, writes, atEnd, notYet, begun}
+use Rattle.reader.specs.Laws.Reads.{reads-end, reads-so-far}
 
 -- bytes behind others, and a number of four of them
 bytes-behind : (n : ℕ) (s : List ℕ) → Bytes s → Bytes (drop n s)
 bytes-behind n s h i = rw getD-drop (h (n + i))
+
+bytes-before : (n : ℕ) (s : List ℕ) → Bytes s → Bytes (take n s)
+bytes-before n s h i = by-cases (ltb i n) refl
+  where
+    by-cases : (b : Bool) → ltb i n ≡ b → getD (take n s) i 0 < 256
+    by-cases true e = rw (getD-take n s i 0 (ltb-true i n e)) (h i)
+    by-cases false e = omega (arith, List·getD-eq-default (take n s) 0 {n = i} (omega (arith, length-take n s, ltb-false i n e)))
 
 long-small : (s : List ℕ) (at : ℕ) → Bytes s → longAt s at < 0x1_0000_0000
 long-small s at h = omega (arith, h at, h (at + 1), h (at + 2), h (at + 2 + 1))
@@ -79,20 +89,43 @@ records-run (suc k) (b ∷ bytes) calls h =
     let s = b ∷ bytes in
     record-run k s calls h (λ earlier. records-run k (drop size s) earlier (bytes-behind size s h)) (leb size (length s) && marked s)
 
-text-came : (input : Input) → afterEnd true (came input) .text ≡ linesOf (historyBy core freshChip (input .calls)) ++ lastLine (input .proper) (length (input .calls))
-unfolding standing came
-text-came input = by-cases (input .proper)
-  where
-    by-cases : (b : Bool) → afterEnd true (cond b (standing (input .calls)) (afterBad (standing (input .calls)))) .text
-        ≡ linesOf (historyBy core freshChip (input .calls)) ++ lastLine b (length (input .calls))
-    by-cases true = refl
-    by-cases false = refl
+text-ended : (calls : List Call) (b : Bool)
+    → afterEnd (cond b (standing calls) (afterBad (standing calls))) .text ≡ linesOf (historyBy core freshChip calls) ++ lastLine b (length calls)
+unfolding standing
+text-ended calls true = refl
+text-ended calls false = refl
 
--- what the program has printed at the end of its input is what the definition says
-pub prints : (bytes : List ℕ) → Bytes bytes → afterEnd true (afterBytes bytes start) .text ≡ printed bytes
+text-so-far : (calls : List Call) (b : Bool)
+    → cond b (standing calls) (afterBad (standing calls)) .text ≡ linesOf (historyBy core freshChip calls) ++ cond b [] (lastLine false (length calls))
+unfolding standing
+text-so-far calls true = sym (append-nil (linesOf (historyBy core freshChip calls)))
+text-so-far calls false = refl
+
+-- what a run of bytes comes to, by the history that `call` gives
+came-to : (bytes : List ℕ) → Bytes bytes → afterBytes bytes start ≡ came (inputOf bytes)
 unfolding standing afterBy historyBy linesOf
-prints bytes h =
+came-to bytes h = records-run (length bytes) bytes [] h
+
+same-lines : (calls : List Call) (l : List ℕ) → linesOf (historyBy core freshChip calls) ++ l ≡ linesOf (history freshChip calls) ++ l
+same-lines calls l = ap (λ (past : List Answered). linesOf past ++ l) (same-history freshChip fresh-chip core core-alike calls)
+
+-- what the program has printed at the end of its input is what the definition says, however the reads cut it
+pub prints : (reads : List (List ℕ)) → Bytes (joined reads) → writes atEnd reads begun ≡ printed (joined reads)
+unfolding came
+prints reads h =
+    let input = inputOf (joined reads) in
+    reads-end reads start refl refl
+    ∙ ap (λ (x : Here). afterEnd x .text) (came-to (joined reads) h)
+    ∙ text-ended (input .calls) (input .proper)
+    ∙ same-lines (input .calls) (lastLine (input .proper) (length (input .calls)))
+
+-- and before the end: every record that is whole has its line
+pub prints-so-far : (reads : List (List ℕ)) → Bytes (joined reads) → writes notYet reads begun ≡ printedSoFar (joined reads)
+unfolding came
+prints-so-far reads h =
+    let bytes = wholeOf (joined reads) in
     let input = inputOf bytes in
-    ap (λ (x : Here). afterEnd true x .text) (records-run (length bytes) bytes [] h)
-    ∙ text-came input
-    ∙ ap (λ (past : List Answered). linesOf past ++ lastLine (input .proper) (length (input .calls))) (same-history freshChip fresh-chip core core-alike (input .calls))
+    reads-so-far reads start refl refl
+    ∙ ap (λ (x : Here). x .text) (came-to bytes (bytes-before (wholeIn (joined reads)) (joined reads) h))
+    ∙ text-so-far (input .calls) (input .proper)
+    ∙ same-lines (input .calls) (cond (input .proper) [] (lastLine false (length (input .calls))))

@@ -1,4 +1,4 @@
--- Block by block is the same as the whole input at once.
+-- Part by part is the same as the whole input at once.
 use mathlib.Core.Path.{_≡_, refl, sym, ap, _∙_}
 use mathlib.Core.Bool.{Bool, true, false, cond}
 use mathlib.Core.List.{List, [], _∷_, _++_, append-assoc, append-nil}
@@ -11,9 +11,10 @@ use Rattle.records.specs.declared.decoding.Found.the-variants.{Whole, Bad}
 use Rattle.records.specs.Records.{size, recordOf}
 use Rattle.records.specs.Laws.Records.{record-alone}
 use Rattle.reader.specs.Blocks.{Here, afterFound, afterRecords, afterBytes}
+use Rattle.reader.specs.Reads.{silent}
 use Rattle.reader.specs.Laws.Blocks.{bytes-last, bytes-more}
 
--- ---- a block, and what comes behind it
+-- ---- whole records, and what comes behind them
 
 -- more bytes, if the program goes on
 abbrev pub afterMore : List ℕ → Here → Here
@@ -35,7 +36,7 @@ module _ (s t : List ℕ) (x : Here) (h : size ≤ length s) where
       ∙ rw (same, drop-append-le size s t h) (later (afterFound (recordOf s) x) e)
       ∙ ap (afterMore t) (sym (bytes-more s x (omega arith) e))
 
--- a whole number of records, and then more bytes: so no record is split between two blocks
+-- a whole number of records, and then more bytes
 pub blocks-join : (m : ℕ) (s t : List ℕ) (x : Here) → length s ≡ size * m → x .on ≡ true → afterBytes (s ++ t) x ≡ afterMore t (afterBytes s x)
 unfolding afterRecords
 blocks-join zero [] t x h e = rw e
@@ -44,7 +45,7 @@ blocks-join (suc m) s t x h e =
     one-more s t x (omega arith) (afterFound (recordOf s) x .on) refl
     (λ y on. blocks-join m (drop size s) t y (omega (arith, length-drop size s)) on)
 
--- ---- the text of one block behind that of the blocks before
+-- ---- the text of one part behind that of the parts before
 
 abbrev pub said : List ℕ → Here → Here
 said p x = record { session = x .session; working = x .working; kept = x .kept; done = x .done; on = x .on; text = p ++ x .text }
@@ -73,19 +74,23 @@ module _ (p : List ℕ) where
   pub bytes-said : (bytes : List ℕ) (x : Here) → afterBytes bytes (said p x) ≡ said p (afterBytes bytes x)
   bytes-said bytes x = records-said (length bytes) bytes x
 
--- the text is out, and the next begins
-abbrev pub silent : Here → Here
-silent x = record { session = x .session; working = x .working; kept = x .kept; done = x .done; on = x .on; text = [] }
-
 text-apart : (x : Here) → x ≡ said (x .text) (silent x)
 text-apart x = rw (append-nil (x .text))
 
 more-said : (p t : List ℕ) (x : Here) → afterMore t (said p x) ≡ said p (afterMore t x)
 more-said p t x = ap (λ (y : Here). cond (x .on) y (said p x)) (bytes-said p t x) ∙ either-said p (x .on) (afterBytes t x) x
 
--- what a block prints, and then what the bytes behind it print, is what both print at once
-pub text-joins : (m : ℕ) (s t : List ℕ) (x : Here) → length s ≡ size * m → x .on ≡ true
-    → afterBytes (s ++ t) x .text ≡ afterBytes s x .text ++ afterMore t (silent (afterBytes s x)) .text
-text-joins m s t x h e =
-    let y = afterBytes s x in
-    ap (λ (z : Here). z .text) (blocks-join m s t x h e ∙ ap (afterMore t) (text-apart y) ∙ more-said (y .text) t (silent y))
+-- what comes last plays no part in what was said before, and nothing comes once the program has stopped
+module _ (last : Here → Here) (apart : (p : List ℕ) (x : Here) → last (said p x) ≡ said p (last x)) (still : (x : Here) → x .on ≡ false → last x ≡ x) where
+  goes-on : (t : List ℕ) (y : Here) (b : Bool) → y .on ≡ b → last (cond b (afterBytes t (silent y)) (silent y)) .text ≡ cond b (last (afterBytes t (silent y)) .text) []
+  goes-on t y true e = refl
+  goes-on t y false e = ap (λ (z : Here). z .text) (still (silent y) e)
+
+  -- what whole records print, and then what the bytes behind them print, is what both print at once
+  pub text-joins : (m : ℕ) (s t : List ℕ) (x : Here) → length s ≡ size * m → x .on ≡ true
+      → last (afterBytes (s ++ t) x) .text ≡ afterBytes s x .text ++ cond (afterBytes s x .on) (last (afterBytes t (silent (afterBytes s x))) .text) []
+  text-joins m s t x h e =
+      let y = afterBytes s x in
+      ap (λ (z : Here). last z .text) (blocks-join m s t x h e ∙ ap (afterMore t) (text-apart y) ∙ more-said (y .text) t (silent y))
+      ∙ ap (λ (z : Here). z .text) (apart (y .text) (afterMore t (silent y)))
+      ∙ ap (λ (l : List ℕ). y .text ++ l) (goes-on t y (y .on) refl)

@@ -12,7 +12,8 @@ use Rattle.session.specs.declared.operations.Operation.the-variants.{Unl
 use Rattle.session.specs.declared.state.State.{State}
 use Rattle.session.specs.Checks.{Check, firstOf, gate}
 use Rattle.session.specs.Effects.{refuses}
-use Rattle.session.specs.Rows.{rowOf, checks, refusalOf, rowDone, performed}
+use Rattle.session.specs.Rows.{rowOf, checks, refusalOf, performed}
+use Rattle.session.specs.Quick.Rows.{rowDone}
 
 -- every check of the list refuses with a number of its own
 abbrev pub refusing : List Check → Bool
@@ -26,7 +27,10 @@ orElse first then = cond (eqb first done) then first
 pub first-append : (xs ys : List Check) → refusing xs ≡ true → firstOf (xs ++ ys) ≡ orElse (firstOf xs) (firstOf ys)
 unfolding firstOf
 first-append [] ys e = refl
-first-append (x ∷ xs) ys e = at (x .condition) (not-true (eqb (x .refusal) done) (and-left (not (eqb (x .refusal) done)) (refusing xs) e)) (first-append xs ys (and-right (not (eqb (x .refusal) done)) (refusing xs) e))
+first-append (x ∷ xs) ys e =
+    at (x .condition)
+    (not-true (eqb (x .refusal) done) (and-left (not (eqb (x .refusal) done)) (refusing xs) e))
+    (first-append xs ys (and-right (not (eqb (x .refusal) done)) (refusing xs) e))
   where
     at : (b : Bool) → eqb (x .refusal) done ≡ false → firstOf (xs ++ ys) ≡ orElse (firstOf xs) (firstOf ys)
         → cond b (x .refusal) (firstOf (xs ++ ys)) ≡ orElse (cond b (x .refusal) (firstOf xs)) (firstOf ys)

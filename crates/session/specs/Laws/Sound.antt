@@ -7,7 +7,7 @@ use native.Mathlib.Omega.{arith}
 use lib.Dec.{eqb}
 use lib.Bits.{bitAnd, and-le-l}
 use lib.ListN.{length, getD}
-use borrow.Author.Tests.{eq-eqb}
+use borrow.Author.Tests.{eq-eqb, lt-ltb, le-ltb}
 use Rattle.words.specs.declared.layout.Kind.the-variants.{Model}
 use Rattle.words.specs.Layout.{words, placeOf}
 use Rattle.logic.specs.Search.{allB}
@@ -18,26 +18,27 @@ use Rattle.words.specs.Laws.Sets.{has-none, set-member, none-is-empty}
 use Rattle.words.specs.Laws.Entries.{entry-test}
 use Rattle.tables.specs.View.{labelAt}
 use Rattle.tables.specs.Sound.{soundTable, soundTables}
-use Rattle.logic.specs.Laws.Search.{all-same, all-both}
+use Rattle.logic.specs.Laws.Search.{all-from, all-same, all-both}
 use Rattle.tables.specs.Laws.Live.{has-and, within-by-and}
 use Rattle.session.specs.declared.state.Event.{Event}
 use Rattle.session.specs.declared.state.State.{State}
 use Rattle.session.specs.States.{places, blankEvent}
-use Rattle.session.specs.Sound.{soundPlace, soundPlaces, maySee, soundAccess}
+use Rattle.session.specs.Sound.{soundEvent, isBlank, soundPlace, soundPlaces, maySee, soundAccess}
 use Rattle.session.specs.Quick.Access.{seenAt, inOpen}
 
--- "Both tables have at least 736 words."
+-- sound tables are long
 pub sound-long : (writing : Bool) (working kept : List ℕ) → soundTables writing working kept ≡ true → words ≤ length working
 unfolding soundTables soundTable
 sound-long writing working kept h = at-most words (length working) .holds (and-left _ _ (and-left _ _ (and-left _ _ (and-left _ _ h))))
 
 -- ---- the log
 
--- a choice without a branch
-pub chosen : (b x y : Bool) → ((b && x) || (not b && y)) ≡ cond b x y
-chosen true true y = refl
-chosen true false y = refl
-chosen false x y = refl
+-- a place with an event, and one behind the last event
+pub used-place : (count i : ℕ) (e : Event) → i < count → soundPlace count i e ≡ soundEvent e
+used-place count i e l = rw (lt-ltb i count l)
+
+pub unused-place : (count i : ℕ) (e : Event) → count ≤ i → soundPlace count i e ≡ isBlank e
+unused-place count i e l = rw (le-ltb i count l)
 
 -- sixteen places, each by itself
 pub by-places : (count : ℕ) (events : List Event) → length events ≡ places → soundPlaces count events ≡ allB places (λ i. soundPlace count i (getD events i blankEvent))
@@ -78,5 +79,16 @@ pub access-by-sets : (working : List ℕ) (s : State) → s .ro < 2 ^ bits → s
     → (eqb (bitAnd (s .ro) (s .rw)) none && eqb (bitAnd (s .ro) (inOpen working (s .repositories))) (s .ro) && eqb (bitAnd (s .rw) (inOpen working (s .repositories))) (s .rw)) ≡ soundAccess working s
 unfolding soundAccess
 access-by-sets working s hr hw =
-    rw (apart-by-and (s .ro) (s .rw) hr, within-by-and (s .ro) (inOpen working (s .repositories)) hr, within-by-and (s .rw) (inOpen working (s .repositories)) hw, all-both bits (λ m. not (has (s .ro) m && has (s .rw) m)) (λ m. not (has (s .ro) m) || has (inOpen working (s .repositories)) m), all-both bits (λ m. not (has (s .ro) m && has (s .rw) m) && (not (has (s .ro) m) || has (inOpen working (s .repositories)) m)) (λ m. not (has (s .rw) m) || has (inOpen working (s .repositories)) m))
-    (all-same bits _ (maySee working s) (λ m l. rw (set-member (seenAt working (s .repositories)) bits m (omega arith) l) (one-model (has (s .ro) m) (has (s .rw) m) (seenAt working (s .repositories) m))))
+    let seen = inOpen working (s .repositories) in
+    let apart : ℕ → Bool = λ m. not (has (s .ro) m && has (s .rw) m) in
+    let reads : ℕ → Bool = λ m. not (has (s .ro) m) || has seen m in
+    let writes : ℕ → Bool = λ m. not (has (s .rw) m) || has seen m in
+    rw (apart-by-and (s .ro) (s .rw) hr, within-by-and (s .ro) seen hr, within-by-and (s .rw) seen hw)
+    (rw (all-both bits apart reads, all-both bits (λ m. apart m && reads m) writes)
+    (all-same bits _ (maySee working s)
+    (λ m l. rw (set-member (seenAt working (s .repositories)) bits m (omega arith) l) (one-model (has (s .ro) m) (has (s .rw) m) (seenAt working (s .repositories) m)))))
+
+-- without access there is nothing to ask
+pub no-access : (working : List ℕ) (s : State) → s .ro ≡ none → s .rw ≡ none → soundAccess working s ≡ true
+unfolding soundAccess
+no-access working s r w = all-from bits (maySee working s) (λ m l. rw (r, w, has-none m))

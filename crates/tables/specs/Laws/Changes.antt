@@ -17,7 +17,7 @@ use Rattle.tables.specs.View.{setAt, headerAt}
 use Rattle.tables.specs.Deletions.{goesWith, refers, detached, swept, ungrouped, without}
 use Rattle.tables.specs.Changes.{apply}
 
--- "Words from 736 on are never .. written": the same length, and the same words beyond
+-- words from 736 on are not written: the same length, and the same words beyond
 pub record Kept (t u : List ℕ) : Type 0 where
   pub lengths : length u ≡ length t
   pub beyond : drop words u ≡ drop words t

@@ -1,13 +1,13 @@
 -- Models and schema instances: what a pass over the labels keeps, and that the words before the first instance decide all that is asked of them.
 use mathlib.Core.Path.{_≡_, refl, ap, _∙_, fun-ext}
 use mathlib.Core.Bool.{Bool, true, false, cond, _&&_, _||_, not, and-true}
-use mathlib.Core.List.{List}
+use mathlib.Core.List.{List, []}
 use Prim.Native.Nat.{ℕ, _+_, _≤_, _<_}
 use native.Mathlib.Nat.{add-zero}
 use native.Mathlib.Omega.{arith}
 use lib.Dec.{eqb}
 use borrow.Author.Tests.{le-leb}
-use lib.ListN.{length, getD, set, length-set}
+use lib.ListN.{length, getD, set, replicate, length-set}
 use Rattle.words.specs.declared.layout.Kind.{Kind}
 use Rattle.words.specs.declared.layout.Kind.the-variants.{Model, SchemaInstance, Instance}
 use Rattle.words.specs.Layout.{words, baseOf, strideOf, countOf, placeOf}
@@ -20,17 +20,17 @@ use Rattle.logic.specs.Laws.Bools.{and-left, and-ended, or-right}
 use Rattle.logic.specs.Laws.Decides.{equal, every}
 use Rattle.logic.specs.Laws.Search.{all-more, all-at, all-from, all-stop, all-done, all-same}
 use Rattle.words.specs.Laws.Layout.{stride-positive}
-use Rattle.words.specs.Laws.Fields.{label-test}
+use Rattle.words.specs.Laws.Fields.{label-test, label-is-live}
 use Rattle.words.specs.Laws.Entries.{entry-test}
 use Rattle.tables.specs.declared.live.Live.{Live}
 use Rattle.tables.specs.declared.labels.Tested.the-variants.{Sound, Unsound}
 use Rattle.tables.specs.View.{labelAt, setAt}
 use Rattle.tables.specs.Sound.{distinct, mayJoin, soundGroup, soundEntries, soundInstances, soundTable}
-use Rattle.tables.specs.Quick.Names.{isNew, buckets, bucketOf}
+use Rattle.tables.specs.Quick.Names.{isNew, chains, chainOf}
 use Rattle.tables.specs.Quick.Live.{isOf, liveOf, liveBelow, liveIn, noLive, withLive}
-use Rattle.tables.specs.Quick.Labels.{labelled, soundLabels, tested, testedLabels, sameEntries}
+use Rattle.tables.specs.Quick.Labels.{labelled, soundLabels, tested, testedLabels, sameEntries, isBlank}
 use Rattle.tables.specs.Laws.Sound.{distinct-alike, group-alike}
-use Rattle.tables.specs.Laws.Names.{free-is-new, Filled, filled-free, filled-more}
+use Rattle.tables.specs.Laws.Names.{free-is-new, Chained, none-chained, chained-free, chained-more}
 use Rattle.tables.specs.Laws.Live.{live-free, live-more}
 
 -- ---- the pass
@@ -50,36 +50,38 @@ next-place SchemaInstance i = omega arith
 next-place Instance i = omega arith
 
 -- after i entries
-pub record Passed (t : List ℕ) (kind : Kind) (filled : List ℕ) (live : Live) (i : ℕ) : Type 0 where
+pub record Passed (t : List ℕ) (kind : Kind) (last before : List ℕ) (live : Live) (i : ℕ) : Type 0 where
   pub labels : allB i (labelled t kind) ≡ true
   pub names : allB i (isNew t kind) ≡ true
-  pub size : length filled ≡ buckets
-  pub fallen : Filled t kind filled i
+  pub size : (length last ≡ chains) × (length before ≡ bits)
+  pub chained : Chained t kind last before i
   pub sets : live ≡ liveBelow t kind i
 
 module _ (t : List ℕ) (kind : Kind) where
-  pub none-passed : (filled : List ℕ) → length filled ≡ buckets → Passed t kind filled noLive 0
+  pub none-passed : (before : List ℕ) → length before ≡ bits → Passed t kind (replicate chains 0) before noLive 0
   unfolding allB setOf
-  none-passed filled n = record { labels = refl; names = refl; size = n; fallen = λ j l live. absurd (omega arith); sets = refl }
+  none-passed before n = record { labels = refl; names = refl; size = (refl, n); chained = none-chained t kind before; sets = refl }
 
-  module _ (filled : List ℕ) (live : Live) (i : ℕ) (passed : Passed t kind filled live i) where
-    pub free-passed : freeAt t kind i ≡ true → Passed t kind filled live (i + 1)
+  module _ (last before : List ℕ) (live : Live) (i : ℕ) (passed : Passed t kind last before live i) where
+    pub free-passed : freeAt t kind i ≡ true → Passed t kind last before live (i + 1)
     free-passed free = record {
       labels = all-more (labelled t kind) i (passed .labels) (rw free);
       names = all-more (isNew t kind) i (passed .names) (free-is-new t kind i free);
       size = passed .size;
-      fallen = filled-free t kind filled i free (passed .fallen);
+      chained = chained-free t kind last before i free (passed .chained);
       sets = passed .sets ∙ live-free t kind i free;
     }
 
-    pub label-passed : (w : ℕ) → labelAt t kind i ≡ w → isLabel w ≡ true → isNew t kind i ≡ true → Passed t kind (set filled (bucketOf w) 1) (withLive live (schemaIn w) i) (i + 1)
-    label-passed w here label new =
+    pub label-passed : i < bits → (w : ℕ) → labelAt t kind i ≡ w → isLabel w ≡ true → isNew t kind i ≡ true
+        → Passed t kind (set last (chainOf w) (i + 1)) (set before i (getD last (chainOf w) 0)) (withLive live (schemaIn w) i) (i + 1)
+    label-passed l w here label new =
         let passes : isLabel (labelAt t kind i) ≡ true = rw here label in
         rw (← here) record {
           labels = all-more (labelled t kind) i (passed .labels) (or-right (freeAt t kind i) (isLabel (labelAt t kind i)) passes);
           names = all-more (isNew t kind) i (passed .names) new;
-          size = length-set filled (bucketOf (labelAt t kind i)) 1 ∙ passed .size;
-          fallen = filled-more t kind filled i (passed .size) (passed .fallen);
+          size = (length-set last _ _ ∙ passed .size .0, length-set before _ _ ∙ passed .size .1);
+          chained = chained-more t kind last before i (passed .size .0) (omega (arith, passed .size .1)) (ap not (label-is-live (labelAt t kind i) (label-test (labelAt t kind i) .holds passes)))
+              (passed .chained);
           sets = ap (λ (l : Live). withLive l (schemaIn (labelAt t kind i)) i) (passed .sets) ∙ live-more t kind i (label-test (labelAt t kind i) .holds passes);
         }
 
@@ -188,3 +190,14 @@ module _ (a b : List ℕ) (same : sameEntries a b ≡ true) where
         all-same (countOf SchemaInstance) (soundGroup a) (soundGroup b)
             (λ s l. group-alike a b model-alike set-alike s),
       )
+
+-- ---- a table with no model and no schema instance is there as one with no word at all
+
+module _ (t : List ℕ) (blank : isBlank t ≡ true) where
+  pub blank-entries : soundEntries t ≡ true
+  unfolding allB distinct soundGroup
+  blank-entries = entries-alike t [] blank
+
+  pub blank-live : liveIn t Model ≡ noLive
+  unfolding setOf
+  blank-live = live-alike t [] blank

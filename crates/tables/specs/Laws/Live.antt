@@ -117,8 +117,17 @@ group-by-sets t s live e =
     rw (live, e) (all-same bits _ _ (λ m l. ap (λ (b : Bool). not (has (setAt t s) m) || b) (live-of-schema t (schemaIn (labelAt t SchemaInstance s)) (w .schema-from) (w .schema-to) m)))
 
 pub model-by-sets : (t : List ℕ) (h : ℕ) → isType (typeIn h) ≡ true
-    → modelFits (liveIn t Model) (typeIn h) h ≡ (isLive t Model (modelIn h) && eqb (schemaIn (labelAt t Model (modelIn h))) (schemaOf (typeIn h)))
-model-by-sets t h e = live-of-schema t (schemaOf (typeIn h)) (type-schema (typeIn h) e .0) (type-schema (typeIn h) e .1) (modelIn h)
+    → (ltb (modelIn h) bits && modelFits (liveIn t Model) (typeIn h) h) ≡ (isLive t Model (modelIn h) && eqb (schemaIn (labelAt t Model (modelIn h))) (schemaOf (typeIn h)))
+model-by-sets t h e = by-cases (decLt (modelIn h) bits)
+  where
+    asked : (m : ℕ) → has (ofSchema (liveIn t Model) (schemaOf (typeIn h))) m ≡ isOf (schemaOf (typeIn h)) (labelAt t Model m)
+    asked = live-of-schema t (schemaOf (typeIn h)) (type-schema (typeIn h) e .0) (type-schema (typeIn h) e .1)
+
+    by-cases : Dec (modelIn h < bits) → (ltb (modelIn h) bits && modelFits (liveIn t Model) (typeIn h) h) ≡ isOf (schemaOf (typeIn h)) (labelAt t Model (modelIn h))
+    by-cases (yes l) =
+        ap (λ (b : Bool). b && modelFits (liveIn t Model) (typeIn h) h) (lt-ltb (modelIn h) bits l)
+        ∙ ap (has (ofSchema (liveIn t Model) (schemaOf (typeIn h)))) (mod-eq-of-lt l) ∙ asked (modelIn h)
+    by-cases (no l) = rw (le-ltb (modelIn h) bits (omega arith))
 
 -- ---- a number is in a set as far as the set has bits
 

@@ -1,4 +1,4 @@
--- What the parts of "sound tables" say, and that tables which agree in the words in use are alike sound.
+-- What the clauses of sound tables say, and that tables which agree in the words in use are alike sound.
 use mathlib.Core.Path.{_≡_, refl, _∙_}
 use mathlib.Core.Bool.{Bool, true, false, cond, not, _&&_, and-true, and-self, false≢true}
 use mathlib.Core.List.{List}
@@ -11,7 +11,7 @@ use Rattle.words.specs.Layout.{words, countOf, placeOf}
 use Rattle.words.specs.Fields.{nameIn, repositoryIn, schemaIn, typeIn, modelIn, isFree}
 use Rattle.words.specs.Entries.{inEntry, wordOf}
 use Rattle.words.specs.Copies.{agree}
-use Rattle.logic.specs.Laws.Bools.{and-ended}
+use Rattle.logic.specs.Laws.Bools.{or-right}
 use Rattle.logic.specs.Laws.Decides.{Decides, both, equal, restated, itself}
 use Rattle.words.specs.Laws.Fields.{Header, header-test}
 use Rattle.words.specs.Laws.Entries.{entry-test}
@@ -49,7 +49,7 @@ same-name-test t kind i j =
 
 -- ---- headers
 
--- "an instance's model is live and of its type's schema"
+-- an instance lies in a live model of the schema that its type is of
 pub record SoundHeader (t : List ℕ) (h : ℕ) : Type 0 where
   pub header : Header h
   pub type : isType (typeIn h) ≡ true
@@ -97,16 +97,14 @@ module _ (a b : List ℕ) (agreeing : Agreeing a b) where
       ) (rw
       (distinct-alike a b Model (same Model), distinct-alike a b SchemaInstance (same SchemaInstance)) (simp same)))
 
--- while writing both tables are looked at; else agreement and one of them tell
+-- of tables that agree one tells of both; else both are looked at, and only while writing
 module _ (working kept : List ℕ) where
-  pub sound-writing : soundTables true working kept ≡ (soundTable working && soundTable kept)
+  pub sound-agreeing : (writing : Bool) → agree working kept ≡ true → soundTables writing working kept ≡ soundTable working
   unfolding soundTables
-  sound-writing = and-true (soundTable working && soundTable kept)
+  sound-agreeing writing e =
+      rw (e, or-right writing true refl, ← sound-alike working kept (agree-test working kept .holds e)) (and-true _ ∙ and-self (soundTable working))
 
-  pub sound-agreeing : agree working kept ≡ true → soundTables false working kept ≡ soundTable working
+  pub sound-apart : (writing : Bool) → agree working kept ≡ false → soundTables writing working kept ≡ (soundTable working && soundTable kept && writing)
   unfolding soundTables
-  sound-agreeing e = rw (e, ← sound-alike working kept (agree-test working kept .holds e)) (and-true _ ∙ and-self (soundTable working))
-
-  pub unsound-apart : agree working kept ≡ false → soundTables false working kept ≡ false
-  unfolding soundTables
-  unsound-apart e = and-ended (soundTable working && soundTable kept) (agree working kept) e
+  sound-apart true e = refl
+  sound-apart false e = rw e

@@ -2,8 +2,10 @@
 use Prim.Native.Nat.{ℕ}
 use mathlib.Core.Bool.{Bool, true, false, _&&_, _||_}
 use mathlib.Core.List.{List}
+use lib.Dec.{eqb}
+use lib.ListN.{getD}
 use Rattle.words.specs.declared.layout.Kind.{Kind}
-use Rattle.words.specs.declared.layout.Kind.the-variants.{Model, SchemaInstance, Instance}
+use Rattle.words.specs.declared.layout.Kind.the-variants.{Model, Instance}
 use Rattle.words.specs.Layout.{baseOf, countOf}
 use Rattle.logic.specs.Search.{allB}
 use Rattle.words.specs.Fields.{isLabel, isFree}
@@ -36,3 +38,7 @@ testedEntries t = tested (soundEntries t) (liveIn t Model)
 -- two tables are the same in the words before the first instance
 abbrev pub sameEntries : List ℕ → List ℕ → Bool
 sameEntries a b = allB (baseOf Instance) (sameAt a b)
+
+-- there is no model and no schema instance
+abbrev pub isBlank : List ℕ → Bool
+isBlank t = allB (baseOf Instance) (λ i. eqb (getD t i 0) 0)

@@ -1,5 +1,5 @@
 -- The live entries of each schema as sets, and the tests of Sound.antt that they answer.
-use Prim.Native.Nat.{ℕ}
+use Prim.Native.Nat.{ℕ, _%_}
 use mathlib.Core.Bool.{Bool, cond, not, _&&_, _||_}
 use mathlib.Core.List.{List}
 use lib.Dec.{eqb}
@@ -43,6 +43,6 @@ ofSchema live schema = cond (eqb schema 1) (live .first) (live .second)
 abbrev pub within : ℕ → ℕ → Bool
 within set other = allB bits (λ m. not (has set m) || has other m)
 
--- the model of a header is live and of this type's schema
+-- the model of a header, as far as it is one of the 64, is live and of this type's schema
 abbrev pub modelFits : Live → ℕ → ℕ → Bool
-modelFits live type h = has (ofSchema live (schemaOf type)) (modelIn h)
+modelFits live type h = has (ofSchema live (schemaOf type)) (modelIn h % bits)

@@ -1,7 +1,7 @@
 -- Two tables: agreement word by word, what a copy holds, and that the words beyond those in use play no part.
-use mathlib.Core.Path.{_≡_, sym, _∙_}
+use mathlib.Core.Path.{_≡_, sym, ap, _∙_}
 use mathlib.Core.Bool.{false, _&&_}
-use mathlib.Core.List.{List, _++_}
+use mathlib.Core.List.{List, _++_, append-nil}
 use Prim.Native.Nat.{ℕ, suc, _+_, _≤_, _<_}
 use native.Mathlib.Numerals.{add-one}
 use native.Mathlib.Omega.{arith}
@@ -9,7 +9,7 @@ use lib.Bits.{bitOr, bitXor, or-add-and, or-zero-l, xor-add-and, xor-self, and-l
 use lib.Dec.{eqb, leb}
 use borrow.Author.Tests.{lt-leb, le-leb}
 use lib.ListN.{length, getD, set, take, drop, length-append, length-take, length-drop, List·getD-append}
-use lib.Seq.{take-suc, drop-cons, append-snoc, set-at, length-take-le, getD-take, drop-at}
+use lib.Seq.{take-all, drop-length, take-suc, drop-cons, append-snoc, set-at, length-take-le, getD-take, drop-at}
 use Rattle.words.specs.declared.layout.Kind.{Kind}
 use Rattle.words.specs.Layout.{words}
 use Rattle.words.specs.Entries.{wordOf}
@@ -24,6 +24,10 @@ pub copy-more : (from to : List ℕ) (i : ℕ) → i < length from → i < lengt
 copy-more from to i hf ht =
     rw (add-one, drop-cons to i 0 ht, take-suc from i 0 hf, append-snoc)
     (set-at (take i from) (getD to i 0) (drop (suc i) to) (getD from i 0) i (length-take-le i from (omega arith)))
+
+-- all words in use are taken into a block of as many
+pub all-taken : (from block : List ℕ) → length block ≡ words → take words from ++ drop words block ≡ take words from
+all-taken from block e = ap (λ (l : List ℕ). take words from ++ l) (ap (λ (n : ℕ). drop n block) (sym e) ∙ drop-length block) ∙ append-nil (take words from)
 
 -- what two words differ in, gathered with what words before them differ in
 pub no-difference : (d x y : ℕ) → eqb (bitOr d (bitXor x y)) 0 ≡ (eqb d 0 && eqb x y)
@@ -72,10 +76,14 @@ module _ (from to : List ℕ) where
     all-of : inBoth from to ≡ words
     all-of = omega arith
 
+    -- by way of a block
+    pub copied-whole : take words (take words from) ++ drop words to ≡ copied from to
+    copied-whole = rw (all-of) (ap (λ (l : List ℕ). l ++ drop words to) (take-all words (take words from) (simp length-take (omega arith))))
+
     pub copied-alike : (i : ℕ) → i < words → getD (copied from to) i 0 ≡ getD from i 0
     copied-alike i l = rw (all-of) (List·getD-append (take words from) (drop words to) 0 i (simp length-take (omega arith)) ∙ getD-take words from i 0 l)
 
-    -- "Words from 736 on are never .. written."
+    -- nothing is written behind the words in use
     pub copied-beyond : drop words (copied from to) ≡ drop words to
     copied-beyond = rw (all-of) (drop-at (take words from) (drop words to) words (simp length-take (omega arith)))
 

@@ -66,7 +66,7 @@ module _ (t : List ℕ) (kind : Kind) (i k w : ℕ) where
           let there = entry-test kind′ i′ k′ .holds e′ in
           getD-set-other t (placeOf kind i + k) (placeOf kind′ i′ + k′) w 0 (λ same. apart (one-owner kind kind′ i i′ k k′ (here .0) (here .1) (there .0) (there .1) (sym same)))
 
-  -- "Words from 736 on are never .. written."
+  -- nothing is written behind the words in use
   pub word-beyond : drop words (withWord t kind i k w) ≡ drop words t
   word-beyond = by-cases (inEntry kind i k) refl
     where
@@ -74,7 +74,7 @@ module _ (t : List ℕ) (kind : Kind) (i k w : ℕ) where
       by-cases false e = refl
       by-cases true e = drop-set-lt words t (placeOf kind i + k) w (entry-in-use kind i k e)
 
--- "Words from 736 on are never read": tables that are alike below have the same entries
+-- nothing is read behind them: tables that are alike below have the same entries
 pub word-alike : (a b : List ℕ) → ((j : ℕ) → j < words → getD a j 0 ≡ getD b j 0) → (kind : Kind) (i k : ℕ) → wordOf a kind i k ≡ wordOf b kind i k
 word-alike a b h kind i k = by-cases (inEntry kind i k) refl
   where

@@ -42,7 +42,7 @@ in-use Model i k hi hk = omega arith
 in-use SchemaInstance i k hi hk = omega arith
 in-use Instance i k hi hk = omega arith
 
--- "Words from 736 on are never read or written."
+-- the number that the manual has for it
 pub words-in-use : words ≡ 736
 words-in-use = refl
 

@@ -12,8 +12,8 @@ returns : tie.Need-returns
 returns c =
     let end = c .before .before .end in
     let if1 = c .before .before .before .before .before .if1 in
-    let args = c .before .before .before .before .before .before .before .before .args in
-    let pre = c .before .before .before .before .before .before .before .before .pre in
+    let args = c .before .before .before .before .before .before .before .args in
+    let pre = c .before .before .before .before .before .before .before .pre in
     let n = args .start .done in
     let short = short-last 101 110 100 n in
     let more = text-more (args .start) (args .out .now) (end .last .0) (end .result) (endText n) pre short (end .ensures .0) (end .ensures .1) in

@@ -1,14 +1,13 @@
--- The branch is the definition's: an effect is done or it is refused for want of room.
-use borrow.Author.Tests.{eq-eqb, ne-eqb}
+-- The log is `log_after`'s, and value and state are as a refusal wants them.
 use borrow.Author.Needs.{needs}
+use Rattle.session.specs.Laws.Answers.{answer-built}
 use Rattle.session.proofs.answers.finished.Statement.{statement}
 use Rattle.session.proofs.answers.finished.Tie as tie
 
 returns : tie.Need-returns
-returns c = rw (ne-eqb (c .before .before .args .refusal) 0 (c .before .if1 .taken)) (c .refused .ensures)
-
-returns-2 : tie.Need-returns-2
-returns-2 c = rw (eq-eqb (c .before .before .before .args .refusal) 0 (c .before .before .if1 .left), c .log-after .ensures)
+returns c =
+    let a = c .before .args in
+    rw (c .log-after .ensures) (answer-built (a .op) (a .refusal) (a .value) (a .x) (a .state) (c .before .pre))
 
 pub finished-spec : {M : Type 1} → statement M
-finished-spec = tie.close (tie.spec (λ c. search needs) returns (λ c. search needs) returns-2)
+finished-spec = tie.close (tie.spec (λ c. search needs) returns)

@@ -8,12 +8,13 @@ use Rattle.session.proofs.events.noted.Tie as tie
 
 returns : tie.Need-returns
 returns c =
-    let asked = c .before .before .before in
-    let a = asked .before .before .before .args in
-    rw (ap (λ (b : Bool). b && eqb (a .x .state .recording) 1) (sym (asked .is-open .ensures)) ∙ c .before .if1 .taken, c .added .ensures)
+    let asked = c .before .before .before .before in
+    rw (ap (λ (b : Bool). b && eqb (asked .before .args .s .recording) 1) (sym (asked .is-open .ensures)) ∙ c .before .before .if1 .taken, c .added .ensures)
 
 returns-2 : tie.Need-returns-2
-returns-2 c = rw (ap (λ (b : Bool). b && eqb (c .before .before .before .before .before .args .x .state .recording) 1) (sym (c .before .before .is-open .ensures)) ∙ c .if1 .left)
+returns-2 c =
+    let asked = c .before .before in
+    rw (ap (λ (b : Bool). b && eqb (asked .before .args .s .recording) 1) (sym (asked .is-open .ensures)) ∙ c .if1 .left)
 
 pub noted-spec : {M : Type 1} → statement M
 noted-spec = tie.close (tie.spec (λ c. search needs) (λ c. search needs) returns returns-2)

@@ -1,33 +1,89 @@
--- The test so far is that of every place passed. The measure is the places left.
-use mathlib.Core.Path.{_≡_, refl, sym}
+-- Every place passed is sound: those with events in the first loop, the blank ones in the second. The measure is the places
+-- left.
+use mathlib.Core.Path.{_≡_, refl, sym, _∙_}
+use mathlib.Core.Bool.{Bool, true}
+use mathlib.Core.List.{List}
 use Prim.Native.Nat.{ℕ, _≤_, _-_}
 use native.Mathlib.Omega.{arith}
-use native.Mathlib.Numerals.{add-one}
 use borrow.Author.Needs.{needs}
+use borrow.Author.Tests.{not-true, not-false}
 use lib.ListN.{getD}
 use Rattle.logic.specs.Search.{allB}
+use Rattle.logic.specs.Laws.Search.{all-more, all-stop, all-done}
+use Rattle.session.specs.declared.state.Event.{Event}
 use Rattle.session.specs.States.{places, blankEvent}
 use Rattle.session.specs.Sound.{soundPlace}
-use Rattle.session.specs.Laws.Sound.{by-places}
+use Rattle.session.specs.Laws.Sound.{by-places, used-place, unused-place}
 use Rattle.session.proofs.sound.sound_places.Statement.{statement}
 use Rattle.session.proofs.sound.sound_places.Tie as tie
 
+abbrev placeOf : ℕ → List Event → ℕ → Bool
+placeOf count events j = soundPlace count j (getD events j blankEvent)
+
 abbrev Inv-loop : tie.InvT-loop
-Inv-loop count events ok₀ i₀ ok i = (i ≤ places) × (ok ≡ allB i (λ (j : ℕ). soundPlace count j (getD events j blankEvent)))
+Inv-loop count events i₀ i = (i ≤ count) × (count ≤ places) × (allB i (placeOf count events) ≡ true)
 
 abbrev μ-loop : tie.MeasureT-loop
-μ-loop count events ok₀ i₀ ok i = places - i
+μ-loop count events i₀ i = places - i
 
-loop-holds : tie.Need-loop-holds Inv-loop μ-loop
+abbrev Inv-loop2 : tie.InvT-loop2
+Inv-loop2 count events i₀ i = (count ≤ i) × (i ≤ places) × (allB i (placeOf count events) ≡ true)
+
+abbrev μ-loop2 : tie.MeasureT-loop2
+μ-loop2 count events i₀ i = places - i
+
+loop-holds : tie.Need-loop-holds Inv-loop μ-loop Inv-loop2 μ-loop2
 unfolding allB
-loop-holds c = (omega arith, refl)
+loop-holds c = (omega arith, c .pre, refl)
 
-loop-again : tie.Need-loop-again Inv-loop μ-loop
-unfolding allB
-loop-again c = (omega arith, rw (add-one, c .sound-place .ensures, c .before .before .before .loop .inv .1))
+returns : tie.Need-returns Inv-loop μ-loop Inv-loop2 μ-loop2
+returns c =
+    let at-loop = c .before .before .before .before in
+    let a = at-loop .before .args in
+    let i = at-loop .loop .i in
+    rw (by-places (a .count) (a .t2) (search needs))
+    (sym (all-stop places (placeOf (a .count) (a .t2)) i (omega arith)
+    (used-place (a .count) i (getD (a .t2) i blankEvent) (omega arith) ∙ sym (c .before .sound-event .ensures) ∙ not-true _ (c .if1 .taken))))
 
-returns : tie.Need-returns Inv-loop μ-loop
-returns c = let e : c .before .loop .i ≡ places = omega arith in rw (c .before .loop .inv .1, e) (sym (by-places (c .before .before .args .count) (c .before .before .args .t2) (search needs)))
+loop-again : tie.Need-loop-again Inv-loop μ-loop Inv-loop2 μ-loop2
+loop-again c =
+    let at-loop = c .before .before .before .before in
+    let a = at-loop .before .args in
+    let i = at-loop .loop .i in (
+      omega arith,
+      at-loop .loop .inv .1,
+      all-more (placeOf (a .count) (a .t2)) i (at-loop .loop .inv .2)
+          (used-place (a .count) i (getD (a .t2) i blankEvent) (omega arith) ∙ sym (c .before .sound-event .ensures) ∙ not-false _ (c .if1 .left)),
+    )
+
+loop2-holds : tie.Need-loop2-holds Inv-loop μ-loop Inv-loop2 μ-loop2
+loop2-holds c = (omega arith, omega arith, c .before .loop .inv .2)
+
+returns-2 : tie.Need-returns-2 Inv-loop μ-loop Inv-loop2 μ-loop2
+returns-2 c =
+    let at-loop = c .before .before .before .before in
+    let a = at-loop .before .before .before .args in
+    let i = at-loop .loop2 .i in
+    rw (by-places (a .count) (a .t2) (search needs))
+    (sym (all-stop places (placeOf (a .count) (a .t2)) i (omega arith)
+    (unused-place (a .count) i (getD (a .t2) i blankEvent) (omega arith) ∙ sym (c .before .is-blank .ensures) ∙ not-true _ (c .if2 .taken))))
+
+loop2-again : tie.Need-loop2-again Inv-loop μ-loop Inv-loop2 μ-loop2
+loop2-again c =
+    let at-loop = c .before .before .before .before in
+    let a = at-loop .before .before .before .args in
+    let i = at-loop .loop2 .i in (
+      omega arith,
+      omega arith,
+      all-more (placeOf (a .count) (a .t2)) i (at-loop .loop2 .inv .2)
+          (unused-place (a .count) i (getD (a .t2) i blankEvent) (omega arith) ∙ sym (c .before .is-blank .ensures) ∙ not-false _ (c .if2 .left)),
+    )
+
+returns-3 : tie.Need-returns-3 Inv-loop μ-loop Inv-loop2 μ-loop2
+returns-3 c =
+    let a = c .before .before .before .before .args in
+    rw (by-places (a .count) (a .t2) (search needs))
+    (sym (all-done (placeOf (a .count) (a .t2)) places (c .before .loop2 .i) (omega arith) (omega arith) (c .before .loop2 .inv .2)))
 
 pub sound-places-spec : {M : Type 1} → statement M
 sound-places-spec =
@@ -35,11 +91,22 @@ sound-places-spec =
     (tie.spec
     Inv-loop
     μ-loop
+    Inv-loop2
+    μ-loop2
     loop-holds
     (λ c. omega arith)
     (λ c. omega arith)
-    (λ Inv-loop μ-loop. search needs)
+    (λ c. search needs)
+    returns
     (λ c. omega arith)
     (λ c. omega arith)
     loop-again
-    returns)
+    loop2-holds
+    (λ c. omega arith)
+    (λ c. omega arith)
+    (λ c. search needs)
+    returns-2
+    (λ c. omega arith)
+    (λ c. omega arith)
+    loop2-again
+    returns-3)

@@ -1,0 +1,33 @@
+-- An answer from its parts, done or refused.
+use Prim.Native.Nat.{ℕ}
+use mathlib.Core.Path.{_≡_, refl, sym, ap, _∙_}
+use mathlib.Core.Bool.{Bool, true, false, cond, _&&_}
+use mathlib.Core.Logic.{_⊎_, inl, inr}
+use lib.Dec.{eqb}
+use borrow.Author.Tests.{eq-eqb, eqb-true}
+use Rattle.session.specs.declared.state.State.{State}
+use Rattle.session.specs.declared.state.Log.{Log}
+use Rattle.session.specs.declared.state.Session.{Session}
+use Rattle.session.specs.Refusals.{done}
+use Rattle.session.specs.States.{isOpen, event, added, session, noted}
+use Rattle.session.specs.Step.{answer, logAfter, finishedAnswer}
+use Rattle.session.specs.Quick.Answers.{logOf}
+
+-- an event changes the log alone
+noted-log : (x : Session) (op refusal : ℕ) → session (x .state) (noted x op refusal .log) ≡ noted x op refusal
+noted-log x op refusal = by-test (isOpen (x .state) && eqb (x .state .recording) 1) (session (x .state) (added (x .log) (event op refusal))) refl
+  where
+    by-test : (b : Bool) (more : Session) → more .state ≡ x .state → session (x .state) (cond b more x .log) ≡ cond b more x
+    by-test true more e = ap (λ (s : State). session s (more .log)) (sym e)
+    by-test false more e = refl
+
+pub answer-built : (op refusal value : ℕ) (x : Session) (s : State) → (refusal ≡ done) ⊎ ((value ≡ 0) × (s ≡ x .state))
+    → answer refusal value (session s (logOf op refusal x s)) ≡ finishedAnswer op x refusal value s
+answer-built op refusal value x s (inl e) = rw (eq-eqb refusal done e, e)
+answer-built op refusal value x s (inr h) = by-test (eqb refusal done) refl
+  where
+    by-test : (b : Bool) → eqb refusal done ≡ b
+        → answer refusal value (session s (cond b (logAfter s (x .log)) (noted x op refusal .log)))
+        ≡ cond b (answer done value (session s (logAfter s (x .log)))) (answer refusal 0 (noted x op refusal))
+    by-test true e = ap (λ (r : ℕ). answer r value (session s (logAfter s (x .log)))) (eqb-true refusal done e)
+    by-test false e = rw (h .0, h .1) (ap (answer refusal 0) (noted-log x op refusal))

@@ -1,0 +1,13 @@
+-- The log of an answer by itself, whether its call is done or refused.
+use Prim.Native.Nat.{ℕ}
+use mathlib.Core.Bool.{cond}
+use lib.Dec.{eqb}
+use Rattle.session.specs.declared.state.State.{State}
+use Rattle.session.specs.declared.state.Log.{Log}
+use Rattle.session.specs.declared.state.Session.{Session}
+use Rattle.session.specs.Refusals.{done}
+use Rattle.session.specs.States.{noted}
+use Rattle.session.specs.Step.{logAfter}
+
+abbrev pub logOf : ℕ → ℕ → Session → State → Log
+logOf op refusal x s = cond (eqb refusal done) (logAfter s (x .log)) (noted x op refusal .log)

@@ -1,0 +1,445 @@
+//! The chip library for Rust: safe functions over libchip.a, which `make lib` gives. docs/CHIP.md is the manual, and
+//! include/chip.h says what a call costs and what a loss of power does.
+//!
+//! `rustc --edition 2021 --crate-type rlib -L native=FOLDER chip.rs`, with the folder of libchip.a. Nothing else is needed.
+#![no_std]
+#![deny(missing_docs)]
+
+use core::fmt;
+
+/// The edition that this file is for; 0 is the base.
+pub const EDITION: u32 = 0;
+/// Words of a table that are in use; a table with fewer is `SY_ERR`.
+pub const WORDS: usize = 736;
+/// Events that a session holds at most.
+pub const EVENTS: usize = 16;
+
+// ---- the dictionary: types, and attributes by type; inherited ones come first
+
+/// Type 0.
+pub const ITEM: u32 = 0;
+/// Attribute 0 of type 0.
+pub const ITEM_NUMBER: u32 = 0;
+/// Type 1.
+pub const PART: u32 = 1;
+/// Attribute 0 of type 1.
+pub const PART_NUMBER: u32 = 0;
+/// Attribute 1 of type 1.
+pub const PART_MASS: u32 = 1;
+/// Type 2.
+pub const PLATE: u32 = 2;
+/// Attribute 0 of type 2.
+pub const PLATE_NUMBER: u32 = 0;
+/// Attribute 1 of type 2.
+pub const PLATE_MASS: u32 = 1;
+/// Attribute 2 of type 2.
+pub const PLATE_THICKNESS: u32 = 2;
+/// Type 3.
+pub const CAVITY: u32 = 3;
+/// Attribute 0 of type 3.
+pub const CAVITY_NUMBER: u32 = 0;
+/// Attribute 1 of type 3.
+pub const CAVITY_MASS: u32 = 1;
+/// Attribute 2 of type 3.
+pub const CAVITY_PLATE: u32 = 2;
+/// Type 4.
+pub const ASSEMBLY: u32 = 4;
+/// Attribute 0 of type 4.
+pub const ASSEMBLY_NUMBER: u32 = 0;
+/// Attribute 1 of type 4.
+pub const ASSEMBLY_ITEM: u32 = 1;
+/// Type 5.
+pub const EVENT: u32 = 5;
+/// Attribute 0 of type 5.
+pub const EVENT_DAY: u32 = 0;
+/// Type 6.
+pub const SHOT_COUNT: u32 = 6;
+/// Attribute 0 of type 6.
+pub const SHOT_COUNT_DAY: u32 = 0;
+/// Attribute 1 of type 6.
+pub const SHOT_COUNT_PART: u32 = 1;
+/// Attribute 2 of type 6.
+pub const SHOT_COUNT_SHOTS: u32 = 2;
+/// Type 7.
+pub const REPAIR: u32 = 7;
+/// Attribute 0 of type 7.
+pub const REPAIR_DAY: u32 = 0;
+/// Attribute 1 of type 7.
+pub const REPAIR_PART: u32 = 1;
+/// Type 8.
+pub const READING: u32 = 8;
+/// Attribute 0 of type 8.
+pub const READING_VALUE: u32 = 0;
+/// Type 9.
+pub const WEAR: u32 = 9;
+/// Attribute 0 of type 9.
+pub const WEAR_VALUE: u32 = 0;
+/// Attribute 1 of type 9.
+pub const WEAR_READING: u32 = 1;
+
+// ---- what crosses the border
+
+/// A refusal that was recorded, and the operation that it was given to.
+#[repr(C)]
+#[derive(Clone, Copy, Debug, Default, PartialEq, Eq)]
+pub struct Event {
+    /// The operation's number.
+    pub op: u32,
+    /// The refusal's number.
+    pub refusal: u32,
+}
+
+/// A session, as the caller holds it between calls. Every value is taken; one that is not sound is `SY_ERR`.
+#[repr(C)]
+#[derive(Clone, Copy, Debug, Default, PartialEq, Eq)]
+pub struct Session {
+    /// The oldest first; the places after the first `count` are 0.
+    pub events: [Event; EVENTS],
+    /// How many events there are.
+    pub count: u64,
+    /// Bit r for open repository r.
+    pub repositories: u64,
+    /// Bit m for model m with read-only access.
+    pub ro: u64,
+    /// Bit m for model m with read-write access.
+    pub rw: u64,
+    /// 1 if the session is open.
+    pub opened: u32,
+    /// 1 if refusals are recorded.
+    pub recording: u32,
+    /// 0 none, 1 read-only, 2 read-write, 3 aborted.
+    pub transaction: u32,
+}
+
+#[repr(C)]
+struct Answer {
+    refusal: u32,
+    value: u32,
+    session: Session,
+}
+
+const _: () = assert!(
+    core::mem::size_of::<Session>() == 176 && core::mem::offset_of!(Session, transaction) == 168
+);
+const _: () =
+    assert!(core::mem::size_of::<Answer>() == 184 && core::mem::offset_of!(Answer, session) == 8);
+const _: () = assert!(core::mem::size_of::<usize>() == 8);
+
+#[link(name = "chip", kind = "static")]
+extern "C" {
+    fn chip_call(
+        op: u32,
+        a: u32,
+        b: u32,
+        c: u32,
+        session: Session,
+        working: *mut u64,
+        working_words: usize,
+        kept: *mut u64,
+        kept_words: usize,
+    ) -> Answer;
+}
+
+// ---- operations and refusals
+
+macro_rules! operations {
+    ($($(#[$doc:meta])* $case:ident = $number:literal $name:literal,)*) => {
+        /// The operations that are listed. `ask` and `call` take any other number too.
+        #[derive(Clone, Copy, Debug, PartialEq, Eq)]
+        #[repr(u32)]
+        pub enum Operation {
+            $($(#[$doc])* $case = $number,)*
+        }
+
+        impl Operation {
+            /// The operation of this number, if it is listed.
+            pub fn of(number: u32) -> Option<Operation> {
+                match number {
+                    $($number => Some(Operation::$case),)*
+                    _ => None,
+                }
+            }
+
+            /// As chip_operation_name has it.
+            pub fn name(self) -> &'static str {
+                match self {
+                    $(Operation::$case => $name,)*
+                }
+            }
+        }
+    };
+}
+
+operations! {
+    /// Open session.
+    OpenSession = 1 "open session",
+    /// Close session.
+    CloseSession = 2 "close session",
+    /// Open repository. a: repository.
+    OpenRepository = 3 "open repository",
+    /// Close repository. a: repository.
+    CloseRepository = 4 "close repository",
+    /// Start RW.
+    StartRw = 5 "start RW",
+    /// Start RO.
+    StartRo = 6 "start RO",
+    /// Commit.
+    Commit = 7 "commit",
+    /// Abort.
+    Abort = 8 "abort",
+    /// End, commit.
+    EndCommit = 9 "end, commit",
+    /// End, abort.
+    EndAbort = 10 "end, abort",
+    /// Recording on.
+    RecordingOn = 11 "recording on",
+    /// Recording off.
+    RecordingOff = 12 "recording off",
+    /// Storage fault.
+    StorageFault = 13 "storage fault",
+    /// Create model. a: repository, b: schema, c: name.
+    CreateModel = 20 "create model",
+    /// Delete model. a: model.
+    DeleteModel = 21 "delete model",
+    /// RO access. a: model.
+    RoAccess = 22 "RO access",
+    /// RW access. a: model.
+    RwAccess = 23 "RW access",
+    /// End access. a: model.
+    EndAccess = 24 "end access",
+    /// Create schema instance. a: repository, b: schema, c: name.
+    CreateSchemaInstance = 30 "create schema instance",
+    /// Delete schema instance. a: schema instance.
+    DeleteSchemaInstance = 31 "delete schema instance",
+    /// Add model. a: schema instance, b: model.
+    AddModel = 32 "add model",
+    /// Remove model. a: schema instance, b: model.
+    RemoveModel = 33 "remove model",
+    /// Create instance. a: model, b: type.
+    CreateInstance = 40 "create instance",
+    /// Delete instance. a: instance.
+    DeleteInstance = 41 "delete instance",
+    /// Get. a: instance, b: attribute.
+    Get = 42 "get",
+    /// Test. a: instance, b: attribute.
+    Test = 43 "test",
+    /// Put. a: instance, b: attribute, c: value.
+    Put = 44 "put",
+    /// Unset. a: instance, b: attribute.
+    Unset = 45 "unset",
+    /// Subtype test. a: type, b: other.
+    SubtypeTest = 46 "subtype test",
+}
+
+impl From<Operation> for u32 {
+    fn from(operation: Operation) -> u32 {
+        operation as u32
+    }
+}
+
+impl fmt::Display for Operation {
+    fn fmt(&self, out: &mut fmt::Formatter<'_>) -> fmt::Result {
+        out.write_str(self.name())
+    }
+}
+
+macro_rules! refusals {
+    ($($(#[$doc:meta])* $case:ident = $number:literal,)*) => {
+        /// Why a call was not done, by the standard's names. A refused call has changed no word of a table.
+        #[allow(non_camel_case_types)]
+        #[derive(Clone, Copy, Debug, PartialEq, Eq)]
+        pub enum Refusal {
+            $($(#[$doc])* $case,)*
+            /// A number that this edition does not give.
+            Unknown(u32),
+        }
+
+        impl Refusal {
+            /// The refusal of a number, which is not 0.
+            pub fn of(number: u32) -> Refusal {
+                match number {
+                    $($number => Refusal::$case,)*
+                    other => Refusal::Unknown(other),
+                }
+            }
+
+            /// Its number.
+            pub fn number(self) -> u32 {
+                match self {
+                    $(Refusal::$case => $number,)*
+                    Refusal::Unknown(number) => number,
+                }
+            }
+
+            /// As chip_refusal_name has it.
+            pub fn name(self) -> &'static str {
+                match self {
+                    $(Refusal::$case => stringify!($case),)*
+                    Refusal::Unknown(_) => "unknown refusal",
+                }
+            }
+        }
+    };
+}
+
+refusals! {
+    /// Tables or session are not sound; the session comes back as given.
+    SY_ERR = 1,
+    /// No such operation.
+    FN_NAVL = 2,
+    /// The session is open.
+    SS_OPN = 3,
+    /// The session is closed.
+    SS_NOPN = 4,
+    /// The transaction is aborted.
+    TR_EAB = 5,
+    /// There is a transaction.
+    TR_EXS = 6,
+    /// There is no transaction to end, commit or abort.
+    TR_NEXS = 7,
+    /// There is no transaction to work in.
+    TR_NAVL = 8,
+    /// The transaction is read-only.
+    TR_NRW = 9,
+    /// No such repository.
+    RP_NEXS = 10,
+    /// The repository is open.
+    RP_OPN = 11,
+    /// The repository is closed.
+    RP_NOPN = 12,
+    /// No such model.
+    MO_NEXS = 13,
+    /// The repository has a model of that name.
+    MO_DUP = 14,
+    /// The schemas of model and schema instance differ.
+    MO_NDEQ = 15,
+    /// Remove model: not in the set; put: no set has both models.
+    MO_NVLD = 16,
+    /// The model has read-only access.
+    MX_RO = 17,
+    /// The model has read-write access.
+    MX_RW = 18,
+    /// The model has no access.
+    MX_NDEF = 19,
+    /// No read-write access, of the model or of one that refers to what would go.
+    MX_NRW = 20,
+    /// No such schema.
+    SD_NDEF = 21,
+    /// No such schema instance.
+    SI_NEXS = 22,
+    /// The repository has a schema instance of that name.
+    SI_DUP = 23,
+    /// No such type.
+    ED_NDEF = 24,
+    /// The two types are of two schemas.
+    ED_NDEQ = 25,
+    /// The type is of another schema than the model.
+    ED_NVLD = 26,
+    /// No such instance.
+    EI_NEXS = 27,
+    /// The type has no such attribute.
+    AT_NDEF = 28,
+    /// The attribute is not set.
+    VA_NSET = 29,
+    /// The value names no instance.
+    VA_NVLD = 30,
+    /// The value names an instance of a wrong type.
+    VT_NVLD = 31,
+    /// Every entry is live.
+    NO_ROOM = 32,
+}
+
+impl fmt::Display for Refusal {
+    fn fmt(&self, out: &mut fmt::Formatter<'_>) -> fmt::Result {
+        out.write_str(self.name())
+    }
+}
+
+impl core::error::Error for Refusal {}
+
+// ---- the call
+
+/// One operation, any number and any arguments, on any session and tables of any length: the value if it is done. Two
+/// tables that are lent for writing cannot overlap, which is all that the call asks of them.
+pub fn call(
+    op: impl Into<u32>,
+    a: u32,
+    b: u32,
+    c: u32,
+    session: &mut Session,
+    working: &mut [u64],
+    kept: &mut [u64],
+) -> Result<u32, Refusal> {
+    let op = op.into();
+    // SAFETY: both slices may be read and written for their lengths, are aligned, and are apart, being borrowed mutably.
+    let answer = unsafe {
+        chip_call(
+            op,
+            a,
+            b,
+            c,
+            *session,
+            working.as_mut_ptr(),
+            working.len(),
+            kept.as_mut_ptr(),
+            kept.len(),
+        )
+    };
+    *session = answer.session;
+    match answer.refusal {
+        0 => Ok(answer.value),
+        refusal => Err(Refusal::of(refusal)),
+    }
+}
+
+/// A session and its two tables, some 12 KB.
+#[derive(Clone, Debug, PartialEq, Eq)]
+pub struct Chip {
+    /// What the last answer left.
+    pub session: Session,
+    /// What operations read and change.
+    pub working: [u64; WORDS],
+    /// What was last committed.
+    pub kept: [u64; WORDS],
+}
+
+impl Chip {
+    /// All zeros.
+    pub const fn fresh() -> Chip {
+        let event = Event { op: 0, refusal: 0 };
+        let session = Session {
+            events: [event; EVENTS],
+            count: 0,
+            repositories: 0,
+            ro: 0,
+            rw: 0,
+            opened: 0,
+            recording: 0,
+            transaction: 0,
+        };
+        Chip {
+            session,
+            working: [0; WORDS],
+            kept: [0; WORDS],
+        }
+    }
+
+    /// After a loss of power: the kept table is all that is left.
+    pub fn restart(&mut self) {
+        self.session = Session::default();
+        self.working = self.kept;
+    }
+
+    /// `call` on it.
+    pub fn ask(&mut self, op: impl Into<u32>, a: u32, b: u32, c: u32) -> Result<u32, Refusal> {
+        call(
+            op,
+            a,
+            b,
+            c,
+            &mut self.session,
+            &mut self.working,
+            &mut self.kept,
+        )
+    }
+}

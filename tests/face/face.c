@@ -1,0 +1,104 @@
+/* What include/chip.h adds to the call: names for numbers, a chip in one struct; and tables that are too short or not there. */
+#include "chip.h"
+
+#include <stdio.h>
+#include <string.h>
+
+static int failures;
+
+static void expect(int holds, const char *what)
+{
+    if (!holds) {
+        printf("face: not so: %s\n", what);
+        failures++;
+    }
+}
+
+/* ---- names ---- */
+
+#define NAMED(name) expect(strcmp(chip_refusal_name(CHIP_##name), #name) == 0, "the name of " #name)
+
+static void refusals_have_names(void)
+{
+    NAMED(SY_ERR), NAMED(FN_NAVL), NAMED(SS_OPN), NAMED(SS_NOPN), NAMED(TR_EAB), NAMED(TR_EXS), NAMED(TR_NEXS);
+    NAMED(TR_NAVL), NAMED(TR_NRW), NAMED(RP_NEXS), NAMED(RP_OPN), NAMED(RP_NOPN), NAMED(MO_NEXS), NAMED(MO_DUP);
+    NAMED(MO_NDEQ), NAMED(MO_NVLD), NAMED(MX_RO), NAMED(MX_RW), NAMED(MX_NDEF), NAMED(MX_NRW), NAMED(SD_NDEF);
+    NAMED(SI_NEXS), NAMED(SI_DUP), NAMED(ED_NDEF), NAMED(ED_NDEQ), NAMED(ED_NVLD), NAMED(EI_NEXS), NAMED(AT_NDEF);
+    NAMED(VA_NSET), NAMED(VA_NVLD), NAMED(VT_NVLD), NAMED(NO_ROOM);
+    expect(strcmp(chip_refusal_name(CHIP_DONE), "done") == 0, "the name of done");
+    expect(strcmp(chip_refusal_name(CHIP_NO_ROOM + 1), "unknown refusal") == 0, "33 is no refusal");
+    expect(strcmp(chip_refusal_name(UINT32_MAX), "unknown refusal") == 0, "2^32 - 1 is no refusal");
+}
+
+/* An operation has a name exactly if the library lists its number. */
+static void listed_operations_have_names(void)
+{
+    chip on;
+    uint32_t op;
+    for (op = 0; op < 70000; op++) {
+        int unknown = strcmp(chip_operation_name(op), "unknown operation") == 0;
+        chip_fresh(&on);
+        expect(unknown == (chip_do(&on, op, 0, 0, 0).refusal == CHIP_FN_NAVL), "names of the listed operations");
+    }
+    expect(strcmp(chip_operation_name(UINT32_MAX), "unknown operation") == 0, "2^32 - 1 is no operation");
+}
+
+/* ---- a chip ---- */
+
+static int all_zero(const void *at, size_t count)
+{
+    const unsigned char *bytes = (const unsigned char *)at;
+    size_t n;
+    for (n = 0; n < count; n++)
+        if (bytes[n] != 0)
+            return 0;
+    return 1;
+}
+
+static void chips_begin_and_begin_again(void)
+{
+    static chip on;
+    memset(&on, 0xa5, sizeof on);
+    chip_fresh(&on);
+    expect(all_zero(&on, sizeof on), "a fresh chip is zeros");
+    chip_do(&on, CHIP_OPEN_SESSION, 0, 0, 0);
+    chip_do(&on, CHIP_OPEN_REPOSITORY, 0, 0, 0);
+    chip_do(&on, CHIP_START_RW, 0, 0, 0);
+    chip_do(&on, CHIP_CREATE_MODEL, 0, 1, 7);
+    chip_do(&on, CHIP_COMMIT, 0, 0, 0);
+    expect(chip_do(&on, CHIP_CREATE_MODEL, 0, 1, 8).value == 1, "a second model");
+    chip_restart(&on);
+    expect(all_zero(&on.session, sizeof on.session), "after a restart the session is closed");
+    expect(on.working[0] == 1099511627783 && on.working[1] == 0, "after a restart there is what was committed");
+    expect(chip_do(&on, CHIP_OPEN_SESSION, 0, 0, 0).refusal == CHIP_DONE, "after a restart the chip is sound");
+}
+
+/* ---- tables ---- */
+
+static uint32_t opened_with(uint64_t *working, size_t working_words, uint64_t *kept, size_t kept_words)
+{
+    chip on;
+    chip_fresh(&on);
+    return chip_call(CHIP_OPEN_SESSION, 0, 0, 0, on.session, working, working_words, kept, kept_words).refusal;
+}
+
+static void short_tables_are_refused(void)
+{
+    static uint64_t working[CHIP_WORDS], kept[CHIP_WORDS];
+    expect(opened_with(NULL, 0, NULL, 0) == CHIP_SY_ERR, "no tables");
+    expect(opened_with(working, CHIP_WORDS, NULL, 0) == CHIP_SY_ERR, "no kept table");
+    expect(opened_with(NULL, 0, kept, CHIP_WORDS) == CHIP_SY_ERR, "no working table");
+    expect(opened_with(working, CHIP_WORDS - 1, kept, CHIP_WORDS) == CHIP_SY_ERR, "a working table of 735 words");
+    expect(opened_with(working, CHIP_WORDS, kept, CHIP_WORDS - 1) == CHIP_SY_ERR, "a kept table of 735 words");
+    expect(opened_with(working, CHIP_WORDS, kept, CHIP_WORDS) == CHIP_DONE, "tables of 736 words");
+}
+
+int main(void)
+{
+    refusals_have_names();
+    listed_operations_have_names();
+    chips_begin_and_begin_again();
+    short_tables_are_refused();
+    printf("face: %d failures\n", failures);
+    return failures != 0;
+}

@@ -1,0 +1,76 @@
+//! What rust/chip.rs adds to the call: the same names and numbers as include/chip.h, and slices of any length.
+use chip::{call, Chip, Operation, Refusal, Session};
+
+const REFUSALS: &str = "SY_ERR FN_NAVL SS_OPN SS_NOPN TR_EAB TR_EXS TR_NEXS TR_NAVL TR_NRW RP_NEXS RP_OPN RP_NOPN MO_NEXS MO_DUP \
+     MO_NDEQ MO_NVLD MX_RO MX_RW MX_NDEF MX_NRW SD_NDEF SI_NEXS SI_DUP ED_NDEF ED_NDEQ ED_NVLD EI_NEXS AT_NDEF VA_NSET \
+     VA_NVLD VT_NVLD NO_ROOM";
+
+fn refusals_have_names() {
+    for (name, number) in REFUSALS.split_whitespace().zip(1..) {
+        assert_eq!(Refusal::of(number).number(), number);
+        assert_eq!(Refusal::of(number).to_string(), name);
+    }
+    assert_eq!(Refusal::of(32), Refusal::NO_ROOM);
+    assert_eq!(Refusal::of(33), Refusal::Unknown(33));
+    assert_eq!(Refusal::of(33).to_string(), "unknown refusal");
+}
+
+/// An operation has a name exactly if the library lists its number.
+fn listed_operations_have_names() {
+    for op in 0..70_000 {
+        let unlisted = Chip::fresh().ask(op, 0, 0, 0) == Err(Refusal::FN_NAVL);
+        assert_eq!(Operation::of(op).is_none(), unlisted);
+        assert!(Operation::of(op)
+            .is_none_or(|listed| u32::from(listed) == op && !listed.to_string().is_empty()));
+    }
+}
+
+fn short_tables_are_refused() {
+    let mut session = Session::default();
+    let (mut working, mut kept) = ([0; chip::WORDS], [0; chip::WORDS]);
+    assert_eq!(
+        call(
+            Operation::OpenSession,
+            0,
+            0,
+            0,
+            &mut session,
+            &mut [],
+            &mut []
+        ),
+        Err(Refusal::SY_ERR)
+    );
+    assert_eq!(
+        call(
+            Operation::OpenSession,
+            0,
+            0,
+            0,
+            &mut session,
+            &mut working[..735],
+            &mut kept
+        ),
+        Err(Refusal::SY_ERR)
+    );
+    assert_eq!(session, Session::default());
+    assert_eq!(
+        call(
+            Operation::OpenSession,
+            0,
+            0,
+            0,
+            &mut session,
+            &mut working,
+            &mut kept
+        ),
+        Ok(0)
+    );
+    assert_eq!((session.opened, session.recording), (1, 1));
+}
+
+fn main() {
+    refusals_have_names();
+    listed_operations_have_names();
+    short_tables_are_refused();
+    println!("face in Rust: as in C");
+}
