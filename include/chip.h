@@ -22,7 +22,7 @@
  * Power: what is proved is what a call leaves when it returns. CHIP_COMMIT and CHIP_END_COMMIT copy the words to the kept
  * table in no stated order, so power that goes in the middle may leave a kept table that is neither the old nor the new.
  * No other operation writes the kept table. A host that must survive this can hold two areas for kept tables and a mark
- * that names the whole one: after a commit has returned, write the other area, and change the mark last. A test at the
+ * that names the whole one: after a commit has returned, copy the kept table to the other area, and change the mark last. A test at the
  * start, CHIP_OPEN_SESSION after chip_restart, tells most of the damage and not all: CHIP_SY_ERR says that the table is not
  * sound, but one that mixes words of two commits can be sound. What the memory itself does then is not proved here.
  *
@@ -45,7 +45,7 @@ extern "C" {
 
 /* ---- the tables ----
  *
- * Words from CHIP_WORDS on are never read or written; a table with fewer is CHIP_SY_ERR.
+ * What a table has beyond CHIP_WORDS words is left alone; one with fewer is CHIP_SY_ERR.
  *
  *   model m              at m            name + 2^32 * repository + 2^40 * schema; 0 if free
  *   schema instance s    at 64 + 2 s     a word like a model's, then a set: bit m says that it has model m
@@ -144,7 +144,7 @@ typedef struct chip_answer {
 
 /* ---- the operations ----
  *
- * Arguments that an operation does not name are ignored. Values that are not told of are 0. */
+ * What an operation does not name of a, b and c does not count. Values that are not told of are 0. */
 enum chip_operation {
     CHIP_OPEN_SESSION = 1,
     CHIP_CLOSE_SESSION = 2,

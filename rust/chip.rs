@@ -245,7 +245,7 @@ impl fmt::Display for Operation {
 
 macro_rules! refusals {
     ($($(#[$doc:meta])* $case:ident = $number:literal,)*) => {
-        /// Why a call was not done, by the standard's names. A refused call has changed no word of a table.
+        /// Why a call was not done, by the standard's names and NO_ROOM. A refused call has changed no word of a table.
         #[allow(non_camel_case_types)]
         #[derive(Clone, Copy, Debug, PartialEq, Eq)]
         pub enum Refusal {

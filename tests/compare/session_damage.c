@@ -2,7 +2,7 @@
 #include "damage.h"
 #include "places.h"
 
-/* ---- "Open or not; recording; the open repositories; transaction none, RO, RW or aborted" ---- */
+/* ---- flags, repositories and the transaction ---- */
 
 static int opened_above_1(dice *d, state *s)
 {
@@ -32,7 +32,7 @@ static int repository_above_7(dice *d, state *s)
     return 1;
 }
 
-/* ---- "At most 16 events (any operation number, a refusal from 2 to 32)" ---- */
+/* ---- the events that are there ---- */
 
 static int too_many_events(dice *d, state *s)
 {
@@ -68,7 +68,7 @@ static int event_of_large_refusal(dice *d, state *s)
     return event_of(d, s, CHIP_FN_NAVL | (uint32_t)one_bit(d, 6, 31));
 }
 
-/* ---- "Unused event places are blank." ---- */
+/* ---- the places behind them ---- */
 
 static chip_event *unused_place(dice *d, state *s)
 {
@@ -90,7 +90,7 @@ static int refusal_in_unused_place(dice *d, state *s)
     return 1;
 }
 
-/* ---- "These sets share no model, name only live working models of open repositories" ---- */
+/* ---- the access sets: apart, and of models that are live and can be reached ---- */
 
 static uint64_t model_bit(uint32_t model)
 {
@@ -169,7 +169,7 @@ static int read_write_of_shut_model(dice *d, state *s)
     return read_write(s, shut_model(d, s));
 }
 
-/* ---- "Are empty under none and aborted, and RW access exists only under RW." ---- */
+/* ---- the access sets and the transaction ---- */
 
 static int read_only_under_none(dice *d, state *s)
 {
@@ -203,7 +203,7 @@ static int read_write_under_read_only(dice *d, state *s)
     return read_write(s, model);
 }
 
-/* ---- "Everything in a closed session is blank." ---- */
+/* ---- a closed session ---- */
 
 static int closed_with_recording(dice *d, state *s)
 {

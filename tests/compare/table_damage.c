@@ -4,7 +4,7 @@
 
 #include <string.h>
 
-/* ---- "Both tables have at least 736 words." ---- */
+/* ---- the length of the tables ---- */
 
 static size_t too_few(dice *d)
 {
@@ -29,7 +29,7 @@ static int both_too_short(dice *d, state *s)
     return 1;
 }
 
-/* ---- "Every entry is free or well formed": words of models and schema instances ---- */
+/* ---- the words of models and schema instances ---- */
 
 static uint64_t word_of_schema_0(dice *d)
 {
@@ -122,7 +122,7 @@ static int free_schema_instance_with_set(dice *d, uint64_t *table, uint64_t acce
     return put_schema_instance(d, table, 0, (uint64_t)1 << (model == NOWHERE ? below(d, CHIP_MODELS) : model));
 }
 
-/* ---- "Names are unique among the models of one repository and among its schema instances." ---- */
+/* ---- names ---- */
 
 #define OTHER_SCHEMA ((uint64_t)3 << 40)
 
@@ -181,7 +181,7 @@ static int schema_instance_named_twice_over_schemas(dice *d, uint64_t *table, ui
     return same_schema_instance_name(d, table, OTHER_SCHEMA);
 }
 
-/* ---- "A set names only live models of the same schema." ---- */
+/* ---- sets ---- */
 
 static int set_names(dice *d, uint64_t *table, uint32_t schema, uint32_t model)
 {
@@ -246,7 +246,7 @@ static int instance_without_type(dice *d, uint64_t *table, uint64_t access)
     return low_byte_is(new_instance_of_any_type(d, table), 0);
 }
 
-/* "An instance's model is live and of its type's schema." */
+/* The model that an instance lies in. */
 static int model_byte_is(dice *d, uint64_t *table, uint32_t type, uint32_t model)
 {
     uint64_t *instance = model == NOWHERE ? NULL : new_instance(d, table, type, NULL);
@@ -278,7 +278,7 @@ static int instance_of_model_of_other_schema(dice *d, uint64_t *table, uint64_t 
     return model_byte_is(d, table, type, live_model_of(d, table, 3u - dictionary[type].schema));
 }
 
-/* "Flags stand only for attributes that the type has." */
+/* Flags of attributes that the type lacks. */
 static int flag_of_lacking_attribute(dice *d, uint64_t *table, uint64_t access)
 {
     (void)access;
@@ -300,7 +300,7 @@ static int header_bit_above_flags(dice *d, uint64_t *table, uint64_t access)
     return 1;
 }
 
-/* "Four value words below 2^32." Attribute 0 is a number in every type. */
+/* Values of more than 32 bits. Attribute 0 is a number in every type. */
 static int value_of_2_to_32(dice *d, uint64_t *table, uint64_t access)
 {
     (void)access;
@@ -314,7 +314,7 @@ static int value_of_2_to_32(dice *d, uint64_t *table, uint64_t access)
     return 1;
 }
 
-/* "The word of an unset attribute, or of one that the type lacks, is 0." */
+/* A value where none is set. */
 static int value_of_unset_attribute(dice *d, uint64_t *table, uint64_t access)
 {
     (void)access;
@@ -334,7 +334,7 @@ static int value_of_lacking_attribute(dice *d, uint64_t *table, uint64_t access)
     return put_value(d, instance, attributes + below(d, CHIP_ATTRIBUTES - attributes));
 }
 
-/* "A set reference names a live instance of the right type." */
+/* Where a reference leads. */
 static uint32_t type_with_reference(dice *d)
 {
     uint32_t type = below(d, CHIP_TYPES);
@@ -404,7 +404,7 @@ static int reference_to_itself_of_wrong_type(dice *d, uint64_t *table, uint64_t 
     return 1;
 }
 
-/* ---- "Unless a read-write transaction is open, both tables agree in words 0 to 735." ---- */
+/* ---- that the tables agree ---- */
 
 /* Each table stays sound by itself. */
 static uint64_t *one_of_two(dice *d, state *s)

@@ -85,9 +85,8 @@ static const entity_type *definition_of(uint64_t header)
 
 #define BUCKETS 128
 
-/* "Every entry is free or well formed; names are unique among the models of one repository and among its schema
- * instances." Entries are `stride` words apart; the live ones of each schema go into `live`. Each is compared with
- * those of its bucket alone, which are chained by their numbers from 1. */
+/* Labels by themselves, and no name twice in a repository. Entries are `stride` words apart; the live ones of each schema
+ * go into `live`. Each is compared with those of its bucket alone, which are chained by their numbers from 1. */
 static int entries_sound(const uint64_t *entries, size_t stride, uint32_t count, uint64_t live[3])
 {
     uint8_t last[BUCKETS] = {0};
@@ -109,7 +108,7 @@ static int entries_sound(const uint64_t *entries, size_t stride, uint32_t count,
     return 1;
 }
 
-/* "A set names only live models of the same schema." A free schema instance has schema 0, of which no model is. */
+/* The members of a set. A free schema instance has schema 0, of which no model is. */
 static int sets_sound(const uint64_t *schema_instances, const uint64_t live[3])
 {
     for (uint32_t s = 0; s < CHIP_SCHEMA_INSTANCES; s++)
@@ -118,7 +117,7 @@ static int sets_sound(const uint64_t *schema_instances, const uint64_t live[3])
     return 1;
 }
 
-/* "A set reference names a live instance of the right type." */
+/* Where a reference that is set may lead. */
 static int reference_sound(const uint64_t *table, uint64_t target, uint32_t wanted)
 {
     if (target >= CHIP_INSTANCES)
@@ -161,7 +160,7 @@ static int table_sound(const uint64_t *table)
     return 1;
 }
 
-/* "At most 16 events (any operation number, a refusal from 2 to 32). Unused event places are blank." */
+/* The log: as many events as are counted, each with a refusal that is recorded, and blank places behind. */
 static int events_sound(const chip_session *session)
 {
     if (session->count > CHIP_EVENTS)
@@ -175,8 +174,7 @@ static int events_sound(const chip_session *session)
     return 1;
 }
 
-/* "These sets share no model, name only live working models of open repositories, are empty under none and aborted,
- * and RW access exists only under RW." */
+/* The access sets: apart from each other, of models that are live and can be reached, and as the transaction allows. */
 static int access_sound(const chip_session *session, const uint64_t *working)
 {
     uint64_t access = session->ro | session->rw;
@@ -405,7 +403,7 @@ static uint32_t storage_fault(machine *on)
     return CHIP_DONE;
 }
 
-/* A new model or schema instance. "A creation takes the lowest free number"; a taken name comes before NO_ROOM. */
+/* A new model or schema instance. The lowest free number is taken; a taken name comes before NO_ROOM. */
 static uint32_t create_entry(machine *on, uint64_t *entries, size_t stride, uint32_t count, uint32_t duplicate,
                              uint32_t repository, uint32_t schema, uint32_t name)
 {
@@ -465,8 +463,8 @@ static int refers_into(const uint64_t *instance, const instance_set *going)
     return has(flags_of(instance[0]), reference) && holds(going, instance[1 + reference]);
 }
 
-/* "MX_NRW by 21 and 41 also if an instance that stays, in another model without RW access, refers to one that would
- * go." Else the instances go and "references to them become unset". */
+/* MX_NRW if an instance outside those that go refers into them, and its model has no RW access. Else they go, and
+ * references to them are unset. */
 static uint32_t delete_instances(machine *on, const instance_set *going)
 {
     instance_set referrers = {{0}};
@@ -564,7 +562,7 @@ static uint32_t delete_schema_instance(machine *on, uint32_t number)
     return CHIP_DONE;
 }
 
-/* "Models now in the set." */
+/* How many models a set has. */
 static uint32_t members(uint64_t set)
 {
     uint32_t count = 0;
@@ -686,7 +684,7 @@ static uint32_t test_attribute(machine *on, uint32_t number, uint32_t attribute)
     return CHIP_DONE;
 }
 
-/* "The same or in one set with it": any live schema instance will do, and a free one has the empty set. */
+/* One model, or two that some set has: any live schema instance will do, and a free one has the empty set. */
 static int share_a_set(const machine *on, uint32_t model, uint32_t other)
 {
     uint64_t both = only(model) | only(other);
@@ -816,7 +814,7 @@ static uint32_t perform(machine *on, uint32_t op, uint32_t a, uint32_t b, uint32
     }
 }
 
-/* "An event is added, the oldest of sixteen dropping out." */
+/* One event more; a full log loses its oldest. */
 static void record_event(chip_session *session, uint32_t op, uint32_t refusal)
 {
     if (session->count == CHIP_EVENTS) {

@@ -88,7 +88,7 @@ above e g Root = e
 above e g (Is p) = g p
 
 -- From a type up to its root: f makes the answer for a type from the type and the answer for its parent, e where there
--- is none. A parent's number is lower, so a type's number bounds the steps (`climb-step` of TypeLaws).
+-- is none. A parent's number is lower, so a type's number bounds the steps (`climb-step` in `Laws/Types.antt`).
 unfoldable pub climbing : {A : Type 0} → A → (ℕ → A → A) → ℕ → ℕ → A
 climbing e f zero t = e
 climbing e f (suc n) t = f t (above e (climbing e f n) (parentOf t))

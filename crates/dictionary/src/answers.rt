@@ -6,7 +6,7 @@ pub enum Parent {
     Is(u32),
 }
 
-// Attribute k of a type: it has none such; I, a whole number; or R t, the number of an instance of type t or a subtype.
+// Attribute k of a type: it has none such; I, a whole number; or R t, which names an instance whose type is t or below it.
 pub enum Attribute {
     Lacking,
     Whole,

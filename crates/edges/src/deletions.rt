@@ -7,9 +7,9 @@ use crate::asking::show;
 use crate::asking::started;
 use crate::printing::title;
 
-// A scan that stops one short of the last entry would miss this: the last instance refers to instance 0, by the last set alone.
+// One entry too few in a scan would miss this: the last instance refers to instance 0, by the last set alone.
 fn last_entry() {
-    title(b"A scan that stops one short of the last entry.");
+    title(b"The last entry is looked at.");
     let c = started();
     let c = lead_all(c, 20, 0, 1, 0, Counting::C, 64);
     let c = lead_all(c, 23, 0, 0, 0, Counting::A, 64);
@@ -25,7 +25,7 @@ fn last_entry() {
 
 // An abort ends access, since the number may come back as another model's.
 fn access_over_an_abort() {
-    title(b"Access kept over an abort, when the number may return as another model.");
+    title(b"An abort ends access: the number may come back as another model's.");
     let c = started();
     let c = show(c, 20, 0, 1, 7);
     let c = show(c, 23, 0, 0, 0);
@@ -51,9 +51,7 @@ fn referring() -> Chip {
 
 // A reference to a deleted instance is unset: its number may be another's soon.
 fn reference_left() {
-    title(
-        b"Deleting an instance and leaving references to its number, which a new instance then takes.",
-    );
+    title(b"A deletion unsets references, before the number is taken again.");
     let c = referring();
     let c = lead_all(c, 23, 0, 0, 0, Counting::A, 2);
     let c = show(c, 42, 1, 2, 0);
@@ -65,7 +63,7 @@ fn reference_left() {
 
 // A deletion changes no model without RW access.
 fn read_only_model() {
-    title(b"Deletion that edits a read-only model.");
+    title(b"A deletion would change a model without RW access.");
     let c = referring();
     let c = lead(c, 23, 0, 0, 0);
     let c = lead(c, 22, 1, 0, 0);

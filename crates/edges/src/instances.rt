@@ -8,7 +8,7 @@ use crate::printing::title;
 
 fn last() {
     title(
-        b"The 128th instance is 127, and can be read, deleted and made again; the 129th is NO_ROOM.",
+        b"The last instance, 127: made, used, deleted, made once more; one beyond it has no room.",
     );
     let c = started();
     let c = lead(c, 20, 0, 1, 7);
@@ -30,7 +30,7 @@ fn last() {
 }
 
 fn freed() {
-    title(b"Delete 17 of 128 instances: the next is 17.");
+    title(b"Of 128 instances 17 is deleted, and the next one made is 17.");
     let c = started();
     let c = lead(c, 20, 0, 1, 7);
     let c = lead(c, 23, 0, 0, 0);

@@ -8,7 +8,7 @@ use crate::printing::title;
 
 // The last model, 63, is an entry like the others; one more has no room, but a taken name is told first.
 fn last() {
-    title(b"The 64th model is 63, and can be read, deleted and made again; the 65th is NO_ROOM.");
+    title(b"The last model, 63: made, used, deleted, made once more; one beyond it has no room.");
     let c = started();
     let c = lead_all(c, 20, 0, 1, 0, Counting::C, 63);
     let c = show(c, 20, 0, 1, 63);
@@ -29,7 +29,7 @@ fn last() {
 
 // The place that a deletion frees in a full table is the next one taken.
 fn freed() {
-    title(b"Delete 17 of 64: the next is 17.");
+    title(b"Of 64 models 17 is deleted, and the next one made is 17.");
     let c = started();
     let c = lead_all(c, 20, 0, 1, 0, Counting::C, 64);
     let c = lead(c, 23, 17, 0, 0);

@@ -6,7 +6,7 @@ use crate::printing::title;
 
 // A reference into another model needs a set that has both.
 fn shared() {
-    title(b"Put to a plate in an unshared model: MO_NVLD; after both are in one set: done.");
+    title(b"A reference into another model, before a set has both models and after.");
     let c = started();
     let c = lead(c, 20, 0, 1, 0);
     let c = lead(c, 20, 0, 1, 1);

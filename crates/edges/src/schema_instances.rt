@@ -8,7 +8,7 @@ use crate::printing::title;
 
 fn last() {
     title(
-        b"The 16th schema instance is 15, and can be used, deleted and made again; the 17th is NO_ROOM.",
+        b"The last schema instance, 15: made, used, deleted, made once more; one beyond it has no room.",
     );
     let c = started();
     let c = lead_all(c, 30, 0, 1, 0, Counting::C, 15);
@@ -28,7 +28,7 @@ fn last() {
 }
 
 fn freed() {
-    title(b"Delete 7 of 16 schema instances: the next is 7.");
+    title(b"Of 16 schema instances 7 is deleted, and the next one made is 7.");
     let c = started();
     let c = lead_all(c, 30, 0, 1, 0, Counting::C, 16);
     let c = show(c, 31, 7, 0, 0);

@@ -1,4 +1,4 @@
--- What a refusal leaves (CHIP, refusals): value 0, both tables as they were, and the session with one event more where
+-- What a refusal leaves (CHIP, operations): value 0, both tables as they were, and the session with one event more where
 -- it records; SY_ERR the session as it came.
 use mathlib.Core.Path.{_≡_, refl}
 use mathlib.Core.Bool.{false, cond}

@@ -77,7 +77,7 @@ wrongType header target = not (subtype (typeIn header) target)
 abbrev pub apart : List ℕ → ℕ → ℕ → Bool
 apart w m n = not (eqb m n || shareSet w m n)
 
--- ---- the gate, by family: what CHIP, operations, has before its table
+-- ---- the gate, by family (CHIP, before every call)
 
 -- a session and a transaction are open, and then the rest
 abbrev pub transacted : State → List Check → List Check

@@ -32,7 +32,7 @@ keptAfter (Changed c) w k = k
 abbrev pub does : ℕ → State → Tables → Effect
 does value s tables = record { refusal = done; value = value; state = s; tables = tables }
 
--- a refusal (CHIP, refusals): value 0, and the tables stay
+-- a refusal (CHIP, operations): value 0, and the tables stay
 abbrev pub refuses : ℕ → State → Effect
 refuses refusal s = record { refusal = refusal; value = 0; state = s; tables = Stay }
 

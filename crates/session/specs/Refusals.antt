@@ -1,4 +1,4 @@
--- The refusal numbers (CHIP, refusals), by the standard's names. 0 is done.
+-- The refusal numbers (CHIP, refusals), by the standard's names, NO_ROOM by ours. 0 is done.
 use Prim.Native.Nat.{ℕ}
 
 abbrev pub done : ℕ

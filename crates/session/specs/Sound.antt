@@ -1,4 +1,4 @@
--- A sound session (01), clause by clause, and what SY_ERR asks.
+-- A sound session (CHIP, sound session), clause by clause, and what SY_ERR asks.
 use Prim.Native.Nat.{ℕ}
 use mathlib.Core.Bool.{Bool, true, cond, not, _&&_, _||_}
 use mathlib.Core.List.{List}

@@ -82,7 +82,7 @@ added l e = cond (ltb (l .count) places) (log (l .count + 1) (set (l .events) (l
 abbrev pub session : State → Log → Session
 session s l = record { state = s; log = l }
 
--- the refusal is recorded (CHIP, refusals) if the session was open and recording at entry
+-- the refusal is recorded (CHIP, events) if the session was open and recording at entry
 abbrev pub noted : Session → ℕ → ℕ → Session
 noted x op refusal =
     cond (isOpen (x .state) && eqb (x .state .recording) 1)

@@ -46,6 +46,6 @@ finished op x w k e =
 unfoldable pub core : ℕ → ℕ → ℕ → ℕ → Session → List ℕ → List ℕ → Outcome
 core op a b c x w k = finished op x w k (performed (operationOf op) a b c (x .state) w)
 
--- SY_ERR comes before all else (CHIP, operations), and gives the session back as it came
+-- SY_ERR comes before all else (CHIP, before every call), and gives the session back as it came
 unfoldable pub step : ℕ → ℕ → ℕ → ℕ → Session → List ℕ → List ℕ → Outcome
 step op a b c x w k = cond (sound x w k) (core op a b c x w k) (outcome (answer SY-ERR 0 x) w k)

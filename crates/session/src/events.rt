@@ -21,13 +21,14 @@ pub fn blank_log() -> Log
     }
 }
 
-// With one event more behind the first n; of sixteen the oldest drops out. The events are moved in a loop, not named one by
-// one: so the compiler keeps them where they stand.
+// With one event more behind the first n; of sixteen the oldest drops out. One array is filled either way, and moved in a
+// loop, not named place by place: so the compiler keeps the events in memory and copies them in few moves.
 fn added(before: [Event; 16], n: u64, e: Event) -> Log
     ensures { λ r. ⌜ r ≡ addedTo (log n before) e ⌝ }
 {
-    let mut events = before;
+    let mut events = [e; 16];
     if n < PLACES {
+        events = before;
         events[n as usize] = e;
         return Log {
             count: n + 1,
@@ -39,7 +40,6 @@ fn added(before: [Event; 16], n: u64, e: Event) -> Log
         events[i] = before[i + 1];
         i += 1;
     }
-    events[LAST] = e;
     Log { count: n, events }
 }
 

@@ -1,9 +1,11 @@
 // Whether a session is sound, beside the working table that its access sets speak of.
 ghost use mathlib.Core.Path.{_≡_};
-ghost use mathlib.Core.Bool.{cond};
+ghost use mathlib.Core.Bool.{true, cond};
 ghost use Prim.Native.Nat.{_≤_};
 ghost use lib.ListN.{length};
+ghost use Rattle.words.specs.declared.layout.Kind.the-variants.{Model};
 ghost use Rattle.words.specs.Layout.{words};
+ghost use Rattle.words.specs.Entries.{formed, allFormed};
 ghost use Rattle.words.specs.Sets.{insert};
 ghost use Rattle.session.specs.States.{places};
 ghost use Rattle.session.specs.Sound.{soundEvent, isBlank, soundPlaces, soundLog, soundAccess, soundTransaction, soundOpen, soundSession};
@@ -21,10 +23,8 @@ use crate::state::State;
 use crate::state::is_open;
 use crate::state::under;
 use words::fields::is_free;
-use words::fields::repository_in;
 use words::sets::BITS;
 use words::sets::EMPTY;
-use words::sets::has;
 use words::sets::with;
 
 fn sound_event(e: Event) -> bool
@@ -73,14 +73,16 @@ fn sound_log(l: Log) -> bool
     sound_places(count, events)
 }
 
-// The label of a live model whose repository is open.
+// The label of a live model whose repository is open. The label is known to be sound, so its repository needs no test.
 fn is_seen(repositories: u64, label: u64) -> bool
+    requires { ⌜ formed Model label ≡ true ⌝ }
     ensures { λ r. ⌜ r ≡ isSeen repositories label ⌝ }
 {
-    !is_free(label) & has(repositories, repository_in(label))
+    !is_free(label) & ((repositories >> (label / 0x1_0000_0000 % 64)) % 2 == 1)
 }
 
 fn with_seen(set: u64, m: u32, repositories: u64, label: u64) -> u64
+    requires { ⌜ formed Model label ≡ true ⌝ }
     ensures { λ r. ⌜ r ≡ cond (isSeen repositories label) (insert set m) set ⌝ }
 {
     if is_seen(repositories, label) {
@@ -93,7 +95,7 @@ fn with_seen(set: u64, m: u32, repositories: u64, label: u64) -> u64
 // The live models of open repositories, built once, so that an access set is tested by one word. The table is long
 // enough, so the words are read where they stand.
 fn in_open(w: &[u64], repositories: u64) -> u64
-    requires { ⌜ words ≤ length (now w) ⌝ }
+    requires { ⌜ (words ≤ length (now w)) × (allFormed (now w) Model ≡ true) ⌝ }
     ensures { λ r. ⌜ r ≡ inOpen (now (w .entry)) repositories ⌝ }
 {
     let mut set = EMPTY;
@@ -108,7 +110,7 @@ fn in_open(w: &[u64], repositories: u64) -> u64
 // The access sets share no model, and each lies within the models that may be seen. Where there is no access, as on a fresh
 // chip, there is nothing to look for.
 fn sound_access(s: State, w: &[u64]) -> bool
-    requires { ⌜ words ≤ length (now w) ⌝ }
+    requires { ⌜ (words ≤ length (now w)) × (allFormed (now w) Model ≡ true) ⌝ }
     ensures { λ r. ⌜ r ≡ soundAccess (now (w .entry)) s ⌝ }
 {
     if (s.ro == EMPTY) & (s.rw == EMPTY) {
@@ -142,9 +144,9 @@ fn sound_open(x: Session) -> bool
         & (log.count == 0)
 }
 
-// The table is known to be long enough: the tables are tested before the session.
+// The table is known to be long enough and its labels sound: the tables are tested before the session.
 pub fn sound_session(x: Session, w: &[u64]) -> bool
-    requires { ⌜ words ≤ length (now w) ⌝ }
+    requires { ⌜ (words ≤ length (now w)) × (allFormed (now w) Model ≡ true) ⌝ }
     ensures { λ r. ⌜ r ≡ soundSession (now (w .entry)) x ⌝ }
 {
     let s = x.state;

@@ -26,7 +26,7 @@ refers t goes i k = isReference (attributeOf (typeAt t i) k) && isSet t i k && g
 
 -- ---- what holds one back
 
--- what holds a deletion back: an instance that would stay refers to one that would go, and its model has no RW access
+-- what holds a deletion back: an instance outside what goes refers into it, and its model has no RW access
 abbrev pub holdsBack : List ℕ → (ℕ → Bool) → ℕ → ℕ → Bool
 holdsBack t goes rw i = isLive t Instance i && not (goes i) && not (has rw (modelAt t i)) && anyB values (refers t goes i)
 

@@ -36,7 +36,7 @@ fn goes_with(t: &[u64], kind: Kind, n: u32, j: u64) -> bool
     }
 }
 
-// An instance that would stay, in a model without RW access, refers to one that would go. Access is asked first: it
+// An instance outside what goes refers into it, and its model has no RW access. Access is asked first: it
 // needs no dictionary.
 fn holds_back(t: &[u64], kind: Kind, n: u32, rw: u64, i: u32) -> bool
     ensures { λ r. ⌜ r ≡ holdsBack (now (t .entry)) (goesWith (now (t .entry)) kind n) rw i ⌝ }

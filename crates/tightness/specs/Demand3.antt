@@ -54,7 +54,7 @@ module _ {begun : Chip} (fresh : Fresh begun) {calls : List Call} {chip : Chip} 
   code-no-room-answered kind q number o c e =
       rw (run-history run) (no-room-answered begun fresh calls kind q number (rw (as-step q chip o c, run-after run) at e))
 
--- ---- a library that honours the first operation and then only answers
+-- ---- a library that opens a session as it should and from then on only answers
 
 -- what demand 3 asks of a library's own run and history
 abbrev pub TellsBy : Machine → Type 0
@@ -112,7 +112,7 @@ module _ (library : Machine) (told : TellsBy library) (begun : Chip) (fresh : Fr
       let blank : isLive (begun .working) Model n ≡ false = ap (λ (w : ℕ). not (eqb w 0)) (no-word (begun .working) (fresh .working) Model n 0) in
       false≢true (sym blank ∙ sym (ap (λ (w : List ℕ). isLive w Model n) (stays library wrong begun (q ∷ calls) p)) ∙ live)
 
-  -- **So does one that honours the first operation and then only answers.**
+  -- **So does one that does the first operation right and from then on only answers.**
   pub only-answering-untold : HonoursTheFirst library → OnlyAnswers library → possibleBy library begun (q ∷ calls) ≡ true → q .op ≡ 20
       → outcomeBy library (afterBy library begun calls) q .answer .refusal ≡ done → ⊥
   only-answering-untold honours answers = no-table-untold (untouched library honours answers)

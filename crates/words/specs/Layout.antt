@@ -4,7 +4,7 @@ use Rattle.words.specs.declared.layout.Kind.{Kind}
 use Rattle.words.specs.declared.layout.Kind.the-variants.{Model, SchemaInstance, Instance}
 use Rattle.words.specs.declared.layout.Row.{Row}
 
--- CHIP, words of a table, for the places; what the chip offers, for the counts
+-- CHIP, words of a table: places and counts
 abbrev pub rowOf : Kind → Row
 rowOf Model = record { base = 0; stride = 1; count = 64 }
 rowOf SchemaInstance = record { base = 64; stride = 2; count = 16 }

@@ -2,13 +2,13 @@
 use mathlib.Core.Path.{_≡_, refl}
 use mathlib.Core.List.{List, [], _∷_}
 use native.Mathlib.Omega.{arith}
-use lib.ListN.{length, set}
+use lib.ListN.{length, replicate}
 use Rattle.session.specs.declared.state.Event.{Event}
 use Rattle.session.specs.States.{places, shifted}
 use Rattle.session.specs.Quick.Events.{movedOn}
 
 -- sixteen events one place on, place by place, and the new one last
-pub all-moved : (l : List Event) (e : Event) → length l ≡ places → set (movedOn 15 l) 15 e ≡ shifted l e
+pub all-moved : (l : List Event) (e : Event) → length l ≡ places → movedOn 15 l (replicate places e) ≡ shifted l e
 unfolding movedOn
 all-moved ([]) e h = absurd (omega arith)
 all-moved (x0 ∷ []) e h = absurd (omega arith)

@@ -2,29 +2,33 @@
 use mathlib.Core.Path.{_≡_, refl, sym, ap, _∙_}
 use mathlib.Core.Bool.{Bool, true, false, cond, not, _&&_, _||_, false≢true}
 use mathlib.Core.List.{List}
-use Prim.Native.Nat.{ℕ, _+_, _^_, _≤_, _<_}
+use Prim.Native.Nat.{ℕ, _+_, _/_, _%_, _^_, _≤_, _<_}
 use native.Mathlib.Omega.{arith}
 use lib.Dec.{eqb}
 use lib.Bits.{bitAnd, and-le-l}
 use lib.ListN.{length, getD}
 use borrow.Author.Tests.{eq-eqb, lt-ltb, le-ltb}
-use Rattle.words.specs.declared.layout.Kind.the-variants.{Model}
-use Rattle.words.specs.Layout.{words, placeOf}
+use Rattle.words.specs.declared.layout.Kind.the-variants.{Model, SchemaInstance}
+use Rattle.words.specs.Layout.{words, countOf, placeOf}
+use Rattle.words.specs.Copies.{isLong, agree}
 use Rattle.logic.specs.Search.{allB}
 use Rattle.words.specs.Sets.{bits, none, has}
-use Rattle.logic.specs.Laws.Bools.{and-left}
+use Rattle.words.specs.Fields.{isFree, repositoryIn}
+use Rattle.words.specs.Entries.{formed, allFormed}
+use Rattle.words.specs.Laws.Fields.{label-test}
+use Rattle.logic.specs.Laws.Bools.{and-left, and-right}
 use Rattle.logic.specs.Laws.Decides.{equal, at-most, denied, every, restated, same-test, itself}
 use Rattle.words.specs.Laws.Sets.{has-none, set-member, none-is-empty}
 use Rattle.words.specs.Laws.Entries.{entry-test}
 use Rattle.tables.specs.View.{labelAt}
-use Rattle.tables.specs.Sound.{soundTable, soundTables}
+use Rattle.tables.specs.Sound.{distinct, soundGroup, soundEntries, soundInstances, soundTable, soundTables}
 use Rattle.logic.specs.Laws.Search.{all-from, all-same, all-both}
 use Rattle.tables.specs.Laws.Live.{has-and, within-by-and}
 use Rattle.session.specs.declared.state.Event.{Event}
 use Rattle.session.specs.declared.state.State.{State}
 use Rattle.session.specs.States.{places, blankEvent}
 use Rattle.session.specs.Sound.{soundEvent, isBlank, soundPlace, soundPlaces, maySee, soundAccess}
-use Rattle.session.specs.Quick.Access.{seenAt, inOpen}
+use Rattle.session.specs.Quick.Access.{isSeen, seenAt, inOpen}
 
 -- sound tables are long
 pub sound-long : (writing : Bool) (working kept : List ℕ) → soundTables writing working kept ≡ true → words ≤ length working
@@ -92,3 +96,29 @@ access-by-sets working s hr hw =
 pub no-access : (working : List ℕ) (s : State) → s .ro ≡ none → s .rw ≡ none → soundAccess working s ≡ true
 unfolding soundAccess
 no-access working s r w = all-from bits (maySee working s) (λ m l. rw (r, w, has-none m))
+
+-- the labels of a sound table are sound
+pub sound-labels : (writing : Bool) (working kept : List ℕ) → soundTables writing working kept ≡ true → allFormed working Model ≡ true
+unfolding soundTables soundTable
+sound-labels writing working kept h =
+    let table : soundTable working ≡ true =
+    and-left (soundTable working) (soundTable kept) (and-left (soundTable working && soundTable kept) (writing || agree working kept) h) in
+    let entries : soundEntries working ≡ true =
+    and-right (isLong working) (soundEntries working) (and-left (isLong working && soundEntries working) (soundInstances working) table) in
+    let models = allFormed working Model && distinct working Model in
+    let groups = allB (countOf SchemaInstance) (soundGroup working) in
+    and-left (allFormed working Model) (distinct working Model)
+    (and-left models groups (and-left (models && groups) (distinct working SchemaInstance) entries))
+
+-- of a sound label the repository's bit is asked for by six of its bits
+pub seen-by-bits : (repositories label : ℕ) → formed Model label ≡ true
+    → (not (isFree label) && eqb (repositories / 2 ^ (label / 0x1_0000_0000 % 64) % 2) 1) ≡ isSeen repositories label
+seen-by-bits repositories label h = by-free (isFree label) refl
+  where
+    by-free : (free : Bool) → isFree label ≡ free
+        → (not free && eqb (repositories / 2 ^ (label / 0x1_0000_0000 % 64) % 2) 1) ≡ (not free && has repositories (repositoryIn label))
+    by-free true e = refl
+    by-free false e =
+        let small = label-test label .holds (rw e at h) .repository in
+        let same : label / 0x1_0000_0000 % 64 ≡ repositoryIn label = omega (arith, small) in
+        ap (λ (m : ℕ). eqb (repositories / 2 ^ m % 2) 1) same

@@ -1,10 +1,10 @@
--- The tables by their function's contract; sound ones are long, as the test of the session asks.
+-- The tables by their function's contract; sound ones are long and have sound labels, as the test of the session asks.
 use mathlib.Core.Path.{_≡_, sym, _∙_}
 use mathlib.Core.Bool.{Bool, true, false}
 use borrow.Author.Tests.{not-true, not-false}
 use Rattle.tables.specs.Sound.{soundTables}
 use Rattle.session.specs.States.{RW, under}
-use Rattle.session.specs.Laws.Sound.{sound-long}
+use Rattle.session.specs.Laws.Sound.{sound-long, sound-labels}
 use Rattle.session.specs.Sound.{sound}
 use borrow.Author.Needs.{needs}
 use Rattle.session.proofs.call.is_sound.Statement.{statement}
@@ -19,7 +19,9 @@ unfolding sound
 returns c = rw (by-cases (c .before) false (not-true _ (c .if1 .taken)))
 
 sound-session-requires : tie.Need-sound-session-requires
-sound-session-requires c κs = sound-long _ _ _ (by-cases (c .before) true (not-false _ (c .if1 .left)))
+sound-session-requires c κs =
+    let tables = by-cases (c .before) true (not-false _ (c .if1 .left)) in
+    (sound-long _ _ _ tables, sound-labels _ _ _ tables)
 
 returns-2 : tie.Need-returns-2
 unfolding sound

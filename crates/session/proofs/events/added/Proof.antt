@@ -1,5 +1,5 @@
--- Below sixteen the event goes to the next place. Else the places passed hold the events one place on; the measure is the
--- places left.
+-- Below sixteen the event goes to the next place. Else the places passed hold the events one place on, and the last one has
+-- the new event from the start; the measure is the places left.
 use Prim.Native.Nat.{_≤_, _-_}
 use mathlib.Core.Path.{_≡_, refl, ap}
 use native.Mathlib.Omega.{arith}
@@ -13,10 +13,10 @@ use Rattle.session.proofs.events.added.Statement.{statement}
 use Rattle.session.proofs.events.added.Tie as tie
 
 abbrev Inv-loop : tie.InvT-loop
-Inv-loop n e v events₀ i₀ events i = (i ≤ 15) × (events ≡ movedOn i v)
+Inv-loop n before events₀ i₀ events i = (i ≤ 15) × (events ≡ movedOn i before events₀)
 
 abbrev μ-loop : tie.MeasureT-loop
-μ-loop n e v events₀ i₀ events i = 15 - i
+μ-loop n before events₀ i₀ events i = 15 - i
 
 returns : tie.Need-returns Inv-loop μ-loop
 returns c = rw (lt-ltb (c .before .args .n) 16 (c .if1 .taken))
@@ -55,5 +55,4 @@ added-spec =
     (λ c. omega arith)
     (λ c. omega arith)
     loop-again
-    (λ c. search needs)
     returns-2)

@@ -1,10 +1,15 @@
 -- After m turns the set holds those of the first m models that may be seen. The measure is the models left.
-use mathlib.Core.Path.{_≡_, refl}
-use Prim.Native.Nat.{_≤_, _-_}
+use mathlib.Core.Path.{_≡_, refl, subst}
+use mathlib.Core.Bool.{true}
+use Prim.Native.Nat.{ℕ, _≤_, _-_}
 use native.Mathlib.Omega.{arith}
 use native.Mathlib.Numerals.{add-one}
 use borrow.Author.Needs.{needs}
+use Rattle.words.specs.declared.layout.Kind.the-variants.{Model}
+use Rattle.words.specs.Layout.{countOf}
+use Rattle.words.specs.Entries.{wordOf, formed}
 use Rattle.words.specs.Sets.{bits, setOf}
+use Rattle.logic.specs.Laws.Search.{all-at}
 use Rattle.session.specs.Quick.Access.{seenAt}
 use Rattle.session.specs.Laws.Sound.{model-label}
 use Rattle.session.proofs.sound.in_open.Statement.{statement}
@@ -19,6 +24,14 @@ abbrev μ-loop : tie.MeasureT-loop
 loop-holds : tie.Need-loop-holds Inv-loop μ-loop
 unfolding setOf
 loop-holds c = (omega arith, refl)
+
+with-seen-requires : tie.Need-with-seen-requires Inv-loop μ-loop
+with-seen-requires c κs =
+    let start = c .before .before .before .before in
+    let w = start .args .w .now in
+    let m = c .before .before .loop .m in
+    subst (λ (label : ℕ). formed Model label ≡ true) (model-label w m (c .before .loop-test .taken))
+    (all-at (countOf Model) (λ i. formed Model (wordOf w Model i 0)) (start .pre .1) m (c .before .loop-test .taken))
 
 loop-again : tie.Need-loop-again Inv-loop μ-loop
 unfolding setOf
@@ -40,7 +53,7 @@ in-open-spec =
     (λ c. omega arith)
     (λ c. omega arith)
     (λ c. omega arith)
-    (λ Inv-loop μ-loop. search needs)
+    with-seen-requires
     (λ c. omega arith)
     (λ c. omega arith)
     loop-again
