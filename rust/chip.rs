@@ -13,6 +13,22 @@ pub const EDITION: u32 = 0;
 pub const WORDS: usize = 736;
 /// Events that a session holds at most.
 pub const EVENTS: usize = 16;
+/// Repositories, 0 to 7, always known.
+pub const REPOSITORIES: u32 = 8;
+/// Models that a table has room for.
+pub const MODELS: u32 = 64;
+/// Schema instances that a table has room for.
+pub const SCHEMA_INSTANCES: u32 = 16;
+/// Instances that a table has room for.
+pub const INSTANCES: u32 = 128;
+/// A session's transaction: there is none.
+pub const NONE: u32 = 0;
+/// A session's transaction: read-only.
+pub const RO: u32 = 1;
+/// A session's transaction: read-write.
+pub const RW: u32 = 2;
+/// A session's transaction: aborted by a fault, and not ended yet.
+pub const ABORTED: u32 = 3;
 
 // ---- the dictionary: types, and attributes by type; inherited ones come first
 
