@@ -1,8 +1,9 @@
-// The shape of a type in one word, so that the test of an instance asks the dictionary once: how many attributes it has,
-// which of them is its reference, both as numbers and as flags (flag k is 2^k), and the types that the reference may name.
+// The shape of a type in one word, so that the test of an instance asks the dictionary once. Each part lies where it is asked
+// for, so that none is masked there: bit u for a type u that the reference may name, from bit 12 on how many attributes there
+// are, and from bit 14 on what a header must not have where it has that (a model past the last, which no type allows, and a
+// flag of no attribute). On top stands the flag of the reference, 2^20 times what a header has for it.
 ghost use mathlib.Core.Path.{_≡_};
-ghost use Rattle.dictionary.specs.Quick.References.{referenceOf};
-ghost use Rattle.dictionary.specs.Quick.Shapes.{flagOf, packedOf, shapeOf, attributesIn, limitIn, referenceIn, flagIn, targetsIn};
+ghost use Rattle.dictionary.specs.Quick.Shapes.{flagOf, packedOf, shapeOf, attributesIn, markIn};
 
 // The answer for a type without a reference: a number that no attribute has.
 pub const NO_REFERENCE: u32 = 4;
@@ -14,15 +15,15 @@ fn flag(k: u32) -> u64
     if k < NO_REFERENCE { 1 << k } else { 0 }
 }
 
-// The limit stands where a header has its flags, so the two are compared as they are. What does not fit is cut.
+// There is room for three attributes and ten types; no type has more.
 fn packed(attributes: u32, reference: u32, targets: u32) -> u64
     ensures { λ r. ⌜ r ≡ packedOf attributes reference targets ⌝ }
 {
-    (targets % 0x1_0000) as u64
-        + 0x1_0000 * flag(attributes)
-        + 0x10_0000 * ((reference % 8) as u64)
-        + 0x100_0000 * ((attributes % 8) as u64)
-        + 0x1000_0000 * flag(reference)
+    (targets % 0x400) as u64
+        + 0x1000 * ((attributes % 4) as u64)
+        + 0xc000
+        + 0x1_0000 * (16 - flag(attributes))
+        + 0x10_0000_0000 * flag(reference)
 }
 
 // The table, a row for each type.
@@ -48,40 +49,12 @@ pub fn shape(t: u32) -> u64
 pub fn attributes_in(shape: u64) -> u32
     ensures { λ r. ⌜ r ≡ attributesIn shape ⌝ }
 {
-    (shape / 0x100_0000 % 8) as u32
+    (shape / 0x1000 % 4) as u32
 }
 
-// The first flag that no attribute has: all others are below it.
-pub fn limit_in(shape: u64) -> u64
-    ensures { λ r. ⌜ r ≡ limitIn shape ⌝ }
+// The flag of the reference as a header has it, 0 if there is none.
+pub fn mark_in(shape: u64) -> u64
+    ensures { λ r. ⌜ r ≡ markIn shape ⌝ }
 {
-    shape / 0x1_0000 % 16
-}
-
-// Which attribute is the reference. No type has two.
-pub fn reference_in(shape: u64) -> u32
-    ensures { λ r. ⌜ r ≡ referenceIn shape ⌝ }
-{
-    (shape / 0x10_0000 % 8) as u32
-}
-
-// The flag of the reference.
-pub fn flag_in(shape: u64) -> u64
-    ensures { λ r. ⌜ r ≡ flagIn shape ⌝ }
-{
-    shape / 0x1000_0000 % 16
-}
-
-// The types that the reference may name, bit u for type u.
-pub fn targets_in(shape: u64) -> u64
-    ensures { λ r. ⌜ r ≡ targetsIn shape ⌝ }
-{
-    shape % 0x1_0000
-}
-
-// The reference of a type, asked for by itself.
-pub fn reference(t: u32) -> u32
-    ensures { λ r. ⌜ r ≡ referenceOf t ⌝ }
-{
-    reference_in(shape(t))
+    shape / 0x10_0000
 }

@@ -4,7 +4,7 @@ ghost use mathlib.Core.Path.{_≡_};
 ghost use Rattle.dictionary.specs.Dictionary.{isType, nameIn, nameOf, schemaOf};
 
 // How many types there are: 0 to 9.
-const TYPES: u32 = 10;
+pub const TYPES: u32 = 10;
 
 pub fn is_type(t: u32) -> bool
     ensures { λ r. ⌜ r ≡ isType t ⌝ }

@@ -1,11 +1,9 @@
 // The live entries of each schema as sets, built once, so that a set of models and an instance's model are tested by one word.
 ghost use mathlib.Core.Path.{_≡_};
-ghost use Rattle.words.specs.Sets.{has as hasBit};
 ghost use Rattle.tables.specs.Quick.Live.{noLive, withLive, ofSchema, within, modelFits};
 use dictionary::schema;
 use words::sets::BITS;
 use words::sets::EMPTY;
-use words::sets::has;
 use words::sets::with;
 
 pub struct Live {
@@ -52,14 +50,7 @@ pub fn is_within(set: u64, other: u64) -> bool
     set & other == set
 }
 
-// Whether a number is in a set, as `has`, but with no branch on the number.
-pub fn is_member(set: u64, m: u32) -> bool
-    ensures { λ r. ⌜ r ≡ hasBit set m ⌝ }
-{
-    (m < BITS) & has(set, m % BITS)
-}
-
-// An instance lies in a live model of its type's schema (CHIP, sound tables). A model past the last is found out beside the value words, and the
+// An instance lies in a live model of its type's schema (CHIP, sound tables). A model past the last is found out among the strays, and the
 // bit is asked for in one expression, not by `has`: so the compiler makes one instruction of it.
 pub fn model_fits(live: Live, ty: u32, h: u64) -> bool
     ensures { λ r. ⌜ r ≡ modelFits live ty h ⌝ }

@@ -7,9 +7,9 @@ ghost use Rattle.words.specs.declared.layout.Kind.the-variants.{Model, SchemaIn
 ghost use Rattle.words.specs.Layout.{words, countOf};
 ghost use Rattle.logic.specs.Search.{allB};
 ghost use Rattle.tables.specs.Quick.Live.{liveIn};
-ghost use Rattle.tables.specs.Quick.Values.{liveFits};
+ghost use Rattle.tables.specs.Quick.Values.{liveFits, instanceFits};
 ghost use Rattle.tables.specs.Quick.Labels.{labelled, soundLabels, testedEntries, sameEntries, isBlank};
-ghost use Rattle.tables.specs.Sound.{soundGroup, soundInstance, soundEntries, soundInstances, soundTable, soundTables};
+ghost use Rattle.tables.specs.Sound.{soundGroup, soundEntries, soundInstances, soundTable, soundTables};
 use super::labels::Tested;
 use super::labels::test_labels;
 use super::live::Live;
@@ -17,15 +17,11 @@ use super::live::is_within;
 use super::live::model_fits;
 use super::live::nobody;
 use super::live::of_schema;
-use super::values::flags_fit;
 use super::values::reference_fits;
 use super::values::words_fit;
 use super::view::label_at;
 use super::view::set_at;
-use dictionary::flag_in;
 use dictionary::is_type;
-use dictionary::limit_in;
-use dictionary::targets_in;
 use words::copies::agree;
 use words::copies::is_long;
 use words::fields::is_free;
@@ -65,8 +61,7 @@ fn sound_groups(t: &[u64], live: Live) -> bool
     true
 }
 
-// A live instance by its header and its value words. Tests are joined by `&`: in this loop a branch that goes now one way,
-// now the other costs more than the test that it spares. In another order they are slower.
+// A live instance by its header and its value words. In another order the tests are slower.
 fn live_fits(t: &[u64], live: Live, h: u64, v0: u64, v1: u64, v2: u64, v3: u64) -> bool
     requires { ⌜ words ≤ length (now t) ⌝ }
     ensures { λ r. ⌜ r ≡ liveFits (now (t .entry)) live h v0 v1 v2 v3 ⌝ }
@@ -77,16 +72,20 @@ fn live_fits(t: &[u64], live: Live, h: u64, v0: u64, v1: u64, v2: u64, v3: u64) 
         return false;
     }
     let shape = dictionary::shape(ty);
-    if !(model_fits(live, ty, h) & words_fit(h, v0, v1, v2, v3) & flags_fit(limit_in(shape), h)) {
+    if !model_fits(live, ty, h) {
         return false;
     }
-    reference_fits(t, flag_in(shape), targets_in(shape), h, v1, v2)
+    if !words_fit(shape, h, v0, v1, v2, v3) {
+        return false;
+    }
+    reference_fits(t, shape, h, v1, v2)
 }
 
-// The table is long enough, so the words are read where they stand.
+// The table is long enough, so the words are read where they stand. A reference to an instance with no type is refused here,
+// where the page refuses that instance by itself: over all instances that is the same.
 fn sound_instance(t: &[u64], live: Live, i: u32) -> bool
-    requires { ⌜ (live ≡ liveIn (now t) Model) × (words ≤ length (now t)) × (i < countOf Instance) ⌝ }
-    ensures { λ r. ⌜ r ≡ soundInstance (now (t .entry)) i ⌝ }
+    requires { ⌜ (words ≤ length (now t)) × (i < countOf Instance) ⌝ }
+    ensures { λ r. ⌜ r ≡ instanceFits (now (t .entry)) live i ⌝ }
 {
     let at = place(Kind::Instance, i);
     let h = t[at];

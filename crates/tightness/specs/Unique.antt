@@ -17,7 +17,6 @@ use Rattle.words.proofs.fields.is_label.Reads as words-fields-is-label
 use Rattle.words.proofs.fields.header.Reads as words-fields-header
 use Rattle.words.proofs.fields.type_in.Reads as words-fields-type-in
 use Rattle.words.proofs.fields.model_in.Reads as words-fields-model-in
-use Rattle.words.proofs.fields.flags_in.Reads as words-fields-flags-in
 use Rattle.words.proofs.fields.is_flagged.Reads as words-fields-is-flagged
 use Rattle.words.proofs.fields.with_flag.Reads as words-fields-with-flag
 use Rattle.words.proofs.fields.without_flag.Reads as words-fields-without-flag
@@ -47,11 +46,7 @@ use Rattle.dictionary.proofs.parents.parent.Reads as dictionary-parents-parent
 use Rattle.dictionary.proofs.parents.subtype.Reads as dictionary-parents-subtype
 use Rattle.dictionary.proofs.shapes.shape.Reads as dictionary-shapes-shape
 use Rattle.dictionary.proofs.shapes.attributes_in.Reads as dictionary-shapes-attributes-in
-use Rattle.dictionary.proofs.shapes.limit_in.Reads as dictionary-shapes-limit-in
-use Rattle.dictionary.proofs.shapes.reference_in.Reads as dictionary-shapes-reference-in
-use Rattle.dictionary.proofs.shapes.flag_in.Reads as dictionary-shapes-flag-in
-use Rattle.dictionary.proofs.shapes.targets_in.Reads as dictionary-shapes-targets-in
-use Rattle.dictionary.proofs.shapes.reference.Reads as dictionary-shapes-reference
+use Rattle.dictionary.proofs.shapes.mark_in.Reads as dictionary-shapes-mark-in
 use Rattle.tables.proofs.changes.apply.Reads as tables-changes-apply
 use Rattle.tables.proofs.deletions.remove.Reads as tables-deletions-remove
 use Rattle.tables.proofs.deletions.held_back.Reads as tables-deletions-held-back
@@ -124,9 +119,6 @@ words-fields-type-in-one κs a x y s s′ p q = p ∙ sym q
 
 pub words-fields-model-in-one : (κs : _) (a : _) (x y : _) (s s′ : _) → words-fields-model-in.Post κs a x s → words-fields-model-in.Post κs a y s′ → x ≡ y
 words-fields-model-in-one κs a x y s s′ p q = p ∙ sym q
-
-pub words-fields-flags-in-one : (κs : _) (a : _) (x y : _) (s s′ : _) → words-fields-flags-in.Post κs a x s → words-fields-flags-in.Post κs a y s′ → x ≡ y
-words-fields-flags-in-one κs a x y s s′ p q = p ∙ sym q
 
 pub words-fields-is-flagged-one : (κs : _) (a : _) (x y : _) (s s′ : _) → words-fields-is-flagged.Post κs a x s → words-fields-is-flagged.Post κs a y s′ → x ≡ y
 words-fields-is-flagged-one κs a x y s s′ p q = p ∙ sym q
@@ -217,20 +209,8 @@ dictionary-shapes-shape-one κs a x y s s′ p q = p ∙ sym q
 pub dictionary-shapes-attributes-in-one : (κs : _) (a : _) (x y : _) (s s′ : _) → dictionary-shapes-attributes-in.Post κs a x s → dictionary-shapes-attributes-in.Post κs a y s′ → x ≡ y
 dictionary-shapes-attributes-in-one κs a x y s s′ p q = p ∙ sym q
 
-pub dictionary-shapes-limit-in-one : (κs : _) (a : _) (x y : _) (s s′ : _) → dictionary-shapes-limit-in.Post κs a x s → dictionary-shapes-limit-in.Post κs a y s′ → x ≡ y
-dictionary-shapes-limit-in-one κs a x y s s′ p q = p ∙ sym q
-
-pub dictionary-shapes-reference-in-one : (κs : _) (a : _) (x y : _) (s s′ : _) → dictionary-shapes-reference-in.Post κs a x s → dictionary-shapes-reference-in.Post κs a y s′ → x ≡ y
-dictionary-shapes-reference-in-one κs a x y s s′ p q = p ∙ sym q
-
-pub dictionary-shapes-flag-in-one : (κs : _) (a : _) (x y : _) (s s′ : _) → dictionary-shapes-flag-in.Post κs a x s → dictionary-shapes-flag-in.Post κs a y s′ → x ≡ y
-dictionary-shapes-flag-in-one κs a x y s s′ p q = p ∙ sym q
-
-pub dictionary-shapes-targets-in-one : (κs : _) (a : _) (x y : _) (s s′ : _) → dictionary-shapes-targets-in.Post κs a x s → dictionary-shapes-targets-in.Post κs a y s′ → x ≡ y
-dictionary-shapes-targets-in-one κs a x y s s′ p q = p ∙ sym q
-
-pub dictionary-shapes-reference-one : (κs : _) (a : _) (x y : _) (s s′ : _) → dictionary-shapes-reference.Post κs a x s → dictionary-shapes-reference.Post κs a y s′ → x ≡ y
-dictionary-shapes-reference-one κs a x y s s′ p q = p ∙ sym q
+pub dictionary-shapes-mark-in-one : (κs : _) (a : _) (x y : _) (s s′ : _) → dictionary-shapes-mark-in.Post κs a x s → dictionary-shapes-mark-in.Post κs a y s′ → x ≡ y
+dictionary-shapes-mark-in-one κs a x y s s′ p q = p ∙ sym q
 
 -- ---- tables
 

@@ -1,6 +1,6 @@
 // The fields of the words: the label of a model or a schema instance, the header of an instance.
 ghost use mathlib.Core.Path.{_≡_};
-ghost use Rattle.words.specs.Fields.{labelOf, nameIn, repositoryIn, schemaIn, isSchema, isLabel, headerOf, typeIn, modelIn, flagsIn, flagged, withFlag, withoutFlag, valueIn, isFree, isNamed};
+ghost use Rattle.words.specs.Fields.{labelOf, nameIn, repositoryIn, schemaIn, isSchema, isLabel, headerOf, typeIn, modelIn, flagged, withFlag, withoutFlag, valueIn, isFree, isNamed};
 use crate::sets;
 
 pub const REPOSITORIES: u32 = 8;
@@ -68,12 +68,6 @@ pub fn model_in(header: u64) -> u32
     ensures { λ r. ⌜ r ≡ modelIn header ⌝ }
 {
     (header / 0x100 % 256) as u32
-}
-
-pub fn flags_in(header: u64) -> u32
-    ensures { λ r. ⌜ r ≡ flagsIn header ⌝ }
-{
-    (header / 0x1_0000 % 256) as u32
 }
 
 // Whether attribute k is set.

@@ -1,6 +1,6 @@
--- The shape of a type in one word: how many attributes it has, which of them is its reference, the flags of both, and the
--- types that the reference may name.
-use Prim.Native.Nat.{ℕ, _+_, _*_, _/_, _%_, _^_}
+-- The shape of a type in one word: the types that its reference may name, how many attributes it has, what a header of the
+-- type must not have, and the flag of the reference.
+use Prim.Native.Nat.{ℕ, _+_, _-_, _*_, _/_, _%_, _^_}
 use mathlib.Core.Bool.{cond}
 use lib.Dec.{ltb}
 use lib.ListN.{length}
@@ -11,26 +11,16 @@ use Rattle.dictionary.specs.Quick.References.{noReference, referenceOf, 
 abbrev pub flagOf : ℕ → ℕ
 flagOf k = cond (ltb k noReference) (2 ^ k) 0
 
--- what does not fit is cut
+-- with room for three attributes and ten types
 abbrev pub packedOf : ℕ → ℕ → ℕ → ℕ
-packedOf attributes reference targets =
-    targets % 0x1_0000 + 0x1_0000 * flagOf attributes + 0x10_0000 * (reference % 8) + 0x100_0000 * (attributes % 8) + 0x1000_0000 * flagOf reference
+packedOf attributes reference targets = targets % 0x400 + 0x1000 * (attributes % 4) + 0xc000 + 0x1_0000 * (16 - flagOf attributes) + 0x10_0000_0000 * flagOf reference
 
 unfoldable pub shapeOf : ℕ → ℕ
 shapeOf t = packedOf (length (attributesOf t)) (referenceOf t) (targetsOf t)
 
 abbrev pub attributesIn : ℕ → ℕ
-attributesIn shape = shape / 0x100_0000 % 8
+attributesIn shape = shape / 0x1000 % 4
 
--- the first flag that no attribute has
-abbrev pub limitIn : ℕ → ℕ
-limitIn shape = shape / 0x1_0000 % 16
-
-abbrev pub referenceIn : ℕ → ℕ
-referenceIn shape = shape / 0x10_0000 % 8
-
-abbrev pub flagIn : ℕ → ℕ
-flagIn shape = shape / 0x1000_0000 % 16
-
-abbrev pub targetsIn : ℕ → ℕ
-targetsIn shape = shape % 0x1_0000
+-- the flag of the reference as a header has it
+abbrev pub markIn : ℕ → ℕ
+markIn shape = shape / 0x10_0000

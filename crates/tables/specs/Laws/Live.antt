@@ -18,7 +18,7 @@ use Rattle.words.specs.Fields.{schemaIn, typeIn, modelIn, isLabel}
 use Rattle.words.specs.Entries.{freeAt}
 use Rattle.logic.specs.Laws.Bools.{and-right}
 use Rattle.logic.specs.Laws.Decides.{equal, every, restated, same-test, itself, implied}
-use Rattle.words.specs.Laws.Sets.{has-past, set-later, set-member, same-members}
+use Rattle.words.specs.Laws.Sets.{set-later, set-member, same-members}
 use Rattle.words.specs.Laws.Fields.{Label, label-test, label-is-live}
 use Rattle.dictionary.specs.Dictionary.{isType, schemaOf}
 use Rattle.dictionary.specs.Laws.Types.{type-schema}
@@ -128,12 +128,3 @@ model-by-sets t h e = by-cases (decLt (modelIn h) bits)
         ap (λ (b : Bool). b && modelFits (liveIn t Model) (typeIn h) h) (lt-ltb (modelIn h) bits l)
         ∙ ap (has (ofSchema (liveIn t Model) (schemaOf (typeIn h)))) (mod-eq-of-lt l) ∙ asked (modelIn h)
     by-cases (no l) = rw (le-ltb (modelIn h) bits (omega arith))
-
--- ---- a number is in a set as far as the set has bits
-
-pub has-folded : (s m : ℕ) → s < 2 ^ bits → (ltb m bits && has s (m % bits)) ≡ has s m
-has-folded s m h = by-cases (decLt m bits)
-  where
-    by-cases : Dec (m < bits) → (ltb m bits && has s (m % bits)) ≡ has s m
-    by-cases (yes l) = rw (lt-ltb m bits l, mod-eq-of-lt l)
-    by-cases (no l) = rw (le-ltb m bits (omega arith)) (sym (has-past s m h (omega arith)))
