@@ -9,8 +9,9 @@
  * each at a multiple of 8 bytes, and the two do not overlap. A null pointer with length 0 is taken. Nothing else.
  *
  * A fresh chip is two tables of CHIP_WORDS zero words and a session of zero bytes. Between calls the caller keeps the
- * session that the last answer holds. The kept table is what a chip holds that lost power: to go on from one, copy it to
- * the working table and begin with a session of zero bytes (chip_restart).
+ * session that the last answer holds, after a read too, since that may have given access. The kept table is what a chip
+ * holds that lost power: to go on from one, copy it to the working table and begin with a session of zero bytes
+ * (chip_restart).
  *
  * Cost: no memory is asked for, no file is touched, nothing is kept between calls. A call takes less than 2 KB of stack on
  * x86-64, besides the session and the answer in the caller's frame, and its time has a bound: every loop is over the
@@ -35,9 +36,9 @@
 #include <stdint.h>
 
 /* The edition counts the change requests that are in; 0 is the base. The number is 10000 * major + 100 * minor + patch. */
-#define CHIP_EDITION 0
-#define CHIP_VERSION "0.1.0"
-#define CHIP_VERSION_NUMBER 100
+#define CHIP_EDITION 1
+#define CHIP_VERSION "0.2.0"
+#define CHIP_VERSION_NUMBER 200
 
 #ifdef __cplusplus
 extern "C" {
@@ -144,7 +145,11 @@ typedef struct chip_answer {
 
 /* ---- the operations ----
  *
- * What an operation does not name of a, b and c does not count. Values that are not told of are 0. */
+ * What an operation does not name of a, b and c does not count. Values that are not told of are 0.
+ *
+ * Access: CHIP_GET and CHIP_TEST ask for none. A done one leaves the model of its instance with read-only access, unless
+ * that has read-write access: a model without access is woken. A refused one gives none. What writes in a model asks for
+ * read-write access, which a model without access gets by CHIP_RW_ACCESS and one with read-only access by CHIP_PROMOTE. */
 enum chip_operation {
     CHIP_OPEN_SESSION = 1,
     CHIP_CLOSE_SESSION = 2,
@@ -164,14 +169,15 @@ enum chip_operation {
     CHIP_RO_ACCESS = 22,              /* a: model */
     CHIP_RW_ACCESS = 23,              /* a: model */
     CHIP_END_ACCESS = 24,             /* a: model */
+    CHIP_PROMOTE = 25,                /* a: model; its read-only access becomes read-write */
     CHIP_CREATE_SCHEMA_INSTANCE = 30, /* a: repository, b: schema, c: name; value: its number */
     CHIP_DELETE_SCHEMA_INSTANCE = 31, /* a: schema instance */
     CHIP_ADD_MODEL = 32,              /* a: schema instance, b: model; value: how many models the set has now */
     CHIP_REMOVE_MODEL = 33,           /* a: schema instance, b: model; value: how many models the set has now */
     CHIP_CREATE_INSTANCE = 40,        /* a: model, b: type; value: its number */
     CHIP_DELETE_INSTANCE = 41,        /* a: instance; references to it become unset */
-    CHIP_GET = 42,                    /* a: instance, b: attribute; value: what it holds */
-    CHIP_TEST = 43,                   /* a: instance, b: attribute; value: 1 if it is set */
+    CHIP_GET = 42,                    /* a: instance, b: attribute; value: what it holds; wakes its model */
+    CHIP_TEST = 43,                   /* a: instance, b: attribute; value: 1 if it is set; wakes its model */
     CHIP_PUT = 44,                    /* a: instance, b: attribute, c: value */
     CHIP_UNSET = 45,                  /* a: instance, b: attribute */
     CHIP_SUBTYPE_TEST = 46            /* a: type, b: other; value: 1 if a is b or below it */
@@ -346,6 +352,7 @@ static inline const char *chip_operation_name(uint32_t op)
     case CHIP_RO_ACCESS: return "RO access";
     case CHIP_RW_ACCESS: return "RW access";
     case CHIP_END_ACCESS: return "end access";
+    case CHIP_PROMOTE: return "promote";
     case CHIP_CREATE_SCHEMA_INSTANCE: return "create schema instance";
     case CHIP_DELETE_SCHEMA_INSTANCE: return "delete schema instance";
     case CHIP_ADD_MODEL: return "add model";

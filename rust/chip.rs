@@ -8,7 +8,7 @@
 use core::fmt;
 
 /// The edition that this file is for; 0 is the base.
-pub const EDITION: u32 = 0;
+pub const EDITION: u32 = 1;
 /// Words of a table that are in use; a table with fewer is `SY_ERR`.
 pub const WORDS: usize = 736;
 /// Events that a session holds at most.
@@ -223,6 +223,8 @@ operations! {
     RwAccess = 23 "RW access",
     /// End access. a: model.
     EndAccess = 24 "end access",
+    /// Promote. a: model. Its read-only access becomes read-write.
+    Promote = 25 "promote",
     /// Create schema instance. a: repository, b: schema, c: name.
     CreateSchemaInstance = 30 "create schema instance",
     /// Delete schema instance. a: schema instance.
@@ -235,9 +237,9 @@ operations! {
     CreateInstance = 40 "create instance",
     /// Delete instance. a: instance.
     DeleteInstance = 41 "delete instance",
-    /// Get. a: instance, b: attribute.
+    /// Get. a: instance, b: attribute. When done, its model has read-only access unless it has read-write.
     Get = 42 "get",
-    /// Test. a: instance, b: attribute.
+    /// Test. a: instance, b: attribute. When done, its model has read-only access unless it has read-write.
     Test = 43 "test",
     /// Put. a: instance, b: attribute, c: value.
     Put = 44 "put",

@@ -76,7 +76,7 @@ static chip_answer ask_both(run *r, pair_of_sides *sides, const call *asked)
     }
     if (!pair_reached(asked->op, models.refusal)) {
         r->strange_pairs++;
-        printf("not a pair of document 01: op %u, refusal %u\n", (unsigned)asked->op, (unsigned)models.refusal);
+        printf("not a pair of documents 01 and 02: op %u, refusal %u\n", (unsigned)asked->op, (unsigned)models.refusal);
     }
     return models;
 }

@@ -15,7 +15,7 @@
 #define READER (OPENED | R(TR_EAB) | R(TR_NAVL))
 #define WRITER (READER | R(TR_NRW))
 
-/* The table of operations in document 01; bit n of a row for refusal n. Row 0 stands for every number that is not listed. */
+/* The operations of documents 01 and 02; bit n of a row for refusal n. Row 0 stands for every number that is not listed. */
 static const uint64_t listed[OPS] = {
     [0] = R(SY_ERR) | R(FN_NAVL),
     [1] = EVERY | R(SS_OPN),
@@ -36,14 +36,15 @@ static const uint64_t listed[OPS] = {
     [22] = READER | R(MO_NEXS) | R(RP_NOPN) | R(MX_RO) | R(MX_RW),
     [23] = WRITER | R(MO_NEXS) | R(RP_NOPN) | R(MX_RW) | R(MX_RO),
     [24] = READER | R(MO_NEXS) | R(MX_NDEF),
+    [25] = WRITER | R(MO_NEXS) | R(MX_NDEF) | R(MX_RW),
     [30] = WRITER | R(RP_NEXS) | R(RP_NOPN) | R(SD_NDEF) | R(SI_DUP) | R(NO_ROOM),
     [31] = WRITER | R(SI_NEXS) | R(RP_NOPN),
     [32] = WRITER | R(SI_NEXS) | R(RP_NOPN) | R(MO_NEXS) | R(MO_NDEQ),
     [33] = WRITER | R(SI_NEXS) | R(RP_NOPN) | R(MO_NEXS) | R(MO_NVLD),
     [40] = WRITER | R(MO_NEXS) | R(MX_NRW) | R(ED_NDEF) | R(ED_NVLD) | R(NO_ROOM),
     [41] = WRITER | R(EI_NEXS) | R(MX_NRW),
-    [42] = READER | R(EI_NEXS) | R(RP_NOPN) | R(MX_NDEF) | R(AT_NDEF) | R(VA_NSET),
-    [43] = READER | R(EI_NEXS) | R(RP_NOPN) | R(MX_NDEF) | R(AT_NDEF),
+    [42] = READER | R(EI_NEXS) | R(RP_NOPN) | R(AT_NDEF) | R(VA_NSET),
+    [43] = READER | R(EI_NEXS) | R(RP_NOPN) | R(AT_NDEF),
     [44] = WRITER | R(EI_NEXS) | R(MX_NRW) | R(AT_NDEF) | R(VA_NVLD) | R(VT_NVLD) | R(MO_NVLD),
     [45] = WRITER | R(EI_NEXS) | R(MX_NRW) | R(AT_NDEF),
     [46] = OPENED | R(ED_NDEF) | R(ED_NDEQ),

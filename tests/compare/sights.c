@@ -9,6 +9,7 @@ typedef struct view {
     const chip_session *before;
     const chip_answer *answer;
     const uint64_t *working;
+    uint64_t woken; /* models whose access a read gave */
 } view;
 
 static int done(const view *v, uint32_t op)
@@ -29,6 +30,28 @@ static int refused(const view *v, uint32_t op, uint32_t refusal)
 static int had_rw(const view *v, uint64_t model)
 {
     return (int)(v->before->rw >> model & 1);
+}
+
+/* The model of the instance that a names. */
+static uint64_t its_model(const view *v)
+{
+    return v->working[CHIP_INSTANCE_AT(v->asked->a)] >> 8 & 0xff;
+}
+
+static int read_done(const view *v)
+{
+    return done(v, CHIP_GET) || done(v, CHIP_TEST);
+}
+
+/* The models that this call woke. */
+static uint64_t newly_woken(const view *v)
+{
+    return read_done(v) ? v->answer->session.ro & ~v->before->ro : 0;
+}
+
+static int was_woken(const view *v, uint32_t model)
+{
+    return (int)(v->woken >> model & 1);
 }
 
 static int last_model(const view *v)
@@ -66,8 +89,7 @@ static int added_model_closed(const view *v)
 
 static int instance_held_back(const view *v)
 {
-    return refused(v, CHIP_DELETE_INSTANCE, CHIP_MX_NRW) &&
-           had_rw(v, v->working[CHIP_INSTANCE_AT(v->asked->a)] >> 8 & 0xff);
+    return refused(v, CHIP_DELETE_INSTANCE, CHIP_MX_NRW) && had_rw(v, its_model(v));
 }
 
 static int last_holds_back(const view *v)
@@ -138,6 +160,68 @@ static int opened_in_aborted(const view *v)
     return done_under(v, CHIP_OPEN_REPOSITORY, CHIP_ABORTED);
 }
 
+static int woken_under(const view *v, uint32_t transaction)
+{
+    return newly_woken(v) && v->before->transaction == transaction;
+}
+
+static int woken_in_ro(const view *v)
+{
+    return woken_under(v, CHIP_RO);
+}
+
+static int woken_in_rw(const view *v)
+{
+    return woken_under(v, CHIP_RW);
+}
+
+static int woken_by_unset(const view *v)
+{
+    return newly_woken(v) && v->asked->op == CHIP_TEST && v->answer->value == 0;
+}
+
+static int read_with_rw(const view *v)
+{
+    return read_done(v) && had_rw(v, its_model(v));
+}
+
+/* Of an open repository, or it would be RP_NOPN. */
+static int left_asleep(const view *v, uint32_t refusal)
+{
+    return refused(v, CHIP_GET, refusal) && !((v->before->ro | v->before->rw) >> its_model(v) & 1) &&
+           v->answer->session.ro == v->before->ro;
+}
+
+static int left_asleep_by_unset(const view *v)
+{
+    return left_asleep(v, CHIP_VA_NSET);
+}
+
+static int left_asleep_by_number(const view *v)
+{
+    return left_asleep(v, CHIP_AT_NDEF);
+}
+
+static int woken_not_given_rw(const view *v)
+{
+    return refused(v, CHIP_RW_ACCESS, CHIP_MX_RO) && was_woken(v, v->asked->a);
+}
+
+static int woken_promoted(const view *v)
+{
+    return done(v, CHIP_PROMOTE) && was_woken(v, v->asked->a);
+}
+
+static int given_promoted(const view *v)
+{
+    return done(v, CHIP_PROMOTE) && !was_woken(v, v->asked->a);
+}
+
+static int woken_ended(const view *v)
+{
+    return done(v, CHIP_END_ACCESS) && was_woken(v, v->asked->a);
+}
+
 typedef struct sight {
     const char *name;
     int (*is_seen)(const view *v);
@@ -164,17 +248,29 @@ static const sight sights[] = {
     {"end, abort of an aborted transaction", ended_aborted},
     {"end, commit of RO", ended_ro_by_commit},
     {"repository opened in an aborted transaction", opened_in_aborted},
+    {"a read wakes a model in RO", woken_in_ro},
+    {"a read wakes a model in RW", woken_in_rw},
+    {"a test of an attribute that is not set wakes a model", woken_by_unset},
+    {"a read of a model with RW access", read_with_rw},
+    {"a get of an attribute that is not set wakes nothing", left_asleep_by_unset},
+    {"a get of an attribute that is not there wakes nothing", left_asleep_by_number},
+    {"RW access of a woken model is MX_RO", woken_not_given_rw},
+    {"a woken model is promoted", woken_promoted},
+    {"a model with the access of 22 is promoted", given_promoted},
+    {"access of a woken model ends", woken_ended},
 };
 
 #define SIGHTS ((int)(sizeof sights / sizeof *sights))
 
 static int seen[SIGHTS];
+static uint64_t woken;
 
 void see(const call *asked, const chip_session *before, const chip_answer *answer, const uint64_t *working)
 {
-    view v = {asked, before, answer, working};
+    view v = {asked, before, answer, working, woken};
     for (int n = 0; n < SIGHTS; n++)
         seen[n] = seen[n] || sights[n].is_seen(&v);
+    woken = (woken | newly_woken(&v)) & answer->session.ro;
 }
 
 int print_sights(int names)

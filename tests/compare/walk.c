@@ -214,7 +214,7 @@ static uint32_t anything(const place *at)
 /* An operation number that is near a listed one, or like one in its low bits, or any. */
 static uint32_t odd_operation(dice *d)
 {
-    static const uint8_t unlisted[] = {0, 14, 19, 25, 29, 34, 39, 47, 48, 63, 64, 255};
+    static const uint8_t unlisted[] = {0, 14, 19, 26, 29, 34, 39, 47, 48, 63, 64, 255};
     uint32_t listed = 1 + below(d, LAST_OP);
     switch (below(d, 4)) {
     case 0: return listed + (uint32_t)one_bit(d, 6, 31);
@@ -226,18 +226,18 @@ static uint32_t odd_operation(dice *d)
 
 /* How often a phase draws each operation; 0 stands for an odd one. */
 static const uint8_t weights[PHASES][LAST_OP + 1] = {
-    [FILL] = {[0] = 1, [3] = 2, [7] = 2, [20] = 40, [22] = 4, [23] = 12, [30] = 9, [32] = 40, [40] = 50, [41] = 6,
-              [42] = 3, [44] = 90, [46] = 1},
+    [FILL] = {[0] = 1, [3] = 2, [7] = 2, [20] = 40, [22] = 4, [23] = 12, [25] = 4, [30] = 9, [32] = 40, [40] = 50,
+              [41] = 6, [42] = 3, [44] = 90, [46] = 1},
     [GATHER] = {[0] = 1, [3] = 2, [7] = 2, [20] = 40, [23] = 10, [30] = 6, [32] = 100, [33] = 2, [40] = 10, [44] = 30},
     [MIX] = {[0] = 4, [1] = 1, [2] = 1, [3] = 2, [4] = 4, [5] = 3, [6] = 3, [7] = 6, [8] = 2, [9] = 3, [10] = 2,
-             [11] = 3, [12] = 2, [13] = 2, [20] = 12, [21] = 8, [22] = 26, [23] = 40, [24] = 8, [30] = 6, [31] = 3,
-             [32] = 24, [33] = 6, [40] = 40, [41] = 30, [42] = 30, [43] = 16, [44] = 90, [45] = 8, [46] = 6},
+             [11] = 3, [12] = 2, [13] = 2, [20] = 12, [21] = 8, [22] = 26, [23] = 40, [24] = 10, [25] = 12, [30] = 6,
+             [31] = 3, [32] = 24, [33] = 6, [40] = 40, [41] = 30, [42] = 30, [43] = 16, [44] = 90, [45] = 8, [46] = 6},
     [DRAIN] = {[0] = 2, [2] = 1, [4] = 8, [6] = 3, [7] = 6, [8] = 2, [9] = 4, [10] = 3, [12] = 1, [13] = 2, [21] = 20,
-               [22] = 20, [23] = 40, [24] = 8, [31] = 4, [33] = 16, [41] = 50, [42] = 8, [43] = 4, [44] = 30,
-               [45] = 16},
+               [22] = 20, [23] = 40, [24] = 10, [25] = 10, [31] = 4, [33] = 16, [41] = 50, [42] = 8, [43] = 4,
+               [44] = 30, [45] = 16},
     [LOOSE] = {[0] = 6, [1] = 1, [2] = 1, [3] = 2, [4] = 2, [5] = 2, [6] = 2, [7] = 2, [8] = 2, [9] = 2, [10] = 2,
-               [11] = 2, [12] = 2, [13] = 2, [20] = 2, [21] = 2, [22] = 2, [23] = 2, [24] = 2, [30] = 2, [31] = 2,
-               [32] = 2, [33] = 2, [40] = 2, [41] = 2, [42] = 2, [43] = 2, [44] = 2, [45] = 2, [46] = 2},
+               [11] = 2, [12] = 2, [13] = 2, [20] = 2, [21] = 2, [22] = 2, [23] = 2, [24] = 2, [25] = 2, [30] = 2,
+               [31] = 2, [32] = 2, [33] = 2, [40] = 2, [41] = 2, [42] = 2, [43] = 2, [44] = 2, [45] = 2, [46] = 2},
 };
 
 static uint32_t drawn(dice *d, const uint8_t *weight)
@@ -281,6 +281,7 @@ static uint64_t set_of(const place *at, uint32_t schema_instance)
 static call with_arguments(const place *at, uint32_t op)
 {
     const chip_session *session = at->session;
+    uint64_t access = session->ro | session->rw;
     call next = {.op = op};
     next.a = anything(at);
     next.b = anything(at);
@@ -298,13 +299,16 @@ static call with_arguments(const place *at, uint32_t op)
         break;
     case CHIP_RO_ACCESS:
     case CHIP_RW_ACCESS:
-        next.a = some_model(at, ~(session->ro | session->rw));
+        next.a = some_model(at, ~access);
         break;
     case CHIP_DELETE_MODEL:
         next.a = model_to_delete(at);
         break;
     case CHIP_END_ACCESS:
-        next.a = some_model(at, session->ro | session->rw);
+        next.a = some_model(at, access);
+        break;
+    case CHIP_PROMOTE:
+        next.a = some_model(at, session->ro);
         break;
     case CHIP_DELETE_SCHEMA_INSTANCE:
         next.a = some_schema_instance(at);
@@ -326,7 +330,7 @@ static call with_arguments(const place *at, uint32_t op)
         break;
     case CHIP_GET:
     case CHIP_TEST:
-        next.a = some_instance(at, session->ro | session->rw);
+        next.a = some_instance(at, one_in(at->dice, 3) ? ~access : access);
         next.b = attribute_of(at, next.a);
         break;
     case CHIP_PUT:

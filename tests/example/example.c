@@ -1,4 +1,5 @@
-/* Makes a plate on a fresh chip, reads it back and keeps it; then power is lost, and the plate is read from what was kept. */
+/* Makes a plate on a fresh chip, reads it back and keeps it; then power is lost, and the plate is read from what was kept
+ * and made thinner. */
 #include "chip.h"
 
 #include <stdio.h>
@@ -27,13 +28,17 @@ static void make_plate(chip *on, uint32_t repository, uint32_t schema, uint32_t 
     ask(on, CHIP_END_COMMIT, 0, 0, 0);
 }
 
-static void read_plate(chip *on, uint32_t repository, uint32_t model, uint32_t plate)
+/* The get gives the model read-only access, the promotion makes it read-write. */
+static void grind_plate(chip *on, uint32_t repository, uint32_t model, uint32_t plate)
 {
     ask(on, CHIP_OPEN_SESSION, 0, 0, 0);
     ask(on, CHIP_OPEN_REPOSITORY, repository, 0, 0);
-    ask(on, CHIP_START_RO, 0, 0, 0);
-    ask(on, CHIP_RO_ACCESS, model, 0, 0);
+    ask(on, CHIP_START_RW, 0, 0, 0);
     ask(on, CHIP_GET, plate, CHIP_PLATE_THICKNESS, 0);
+    ask(on, CHIP_PROMOTE, model, 0, 0);
+    ask(on, CHIP_PUT, plate, CHIP_PLATE_THICKNESS, 24);
+    ask(on, CHIP_GET, plate, CHIP_PLATE_THICKNESS, 0);
+    ask(on, CHIP_END_COMMIT, 0, 0, 0);
     ask(on, CHIP_CLOSE_SESSION, 0, 0, 0);
 }
 
@@ -43,6 +48,6 @@ int main(void)
     chip_fresh(&on);
     make_plate(&on, 0, 1, 7);
     chip_restart(&on);
-    read_plate(&on, 0, 0, 0);
+    grind_plate(&on, 0, 0, 0);
     return refused;
 }

@@ -1,4 +1,5 @@
-//! The walk of example.c in Rust: a plate is made, read back and kept; then power is lost, and it is read from what was kept.
+//! The walk of example.c in Rust: a plate is made, read back and kept; then power is lost, and it is read from what was kept
+//! and made thinner.
 use chip::{Chip, Operation, Refusal};
 use std::process::ExitCode;
 
@@ -30,12 +31,16 @@ impl Walk {
         self.ask(Operation::EndCommit, 0, 0, 0);
     }
 
-    fn read_plate(&mut self, repository: u32, model: u32, plate: u32) {
+    /// The get gives the model read-only access, the promotion makes it read-write.
+    fn grind_plate(&mut self, repository: u32, model: u32, plate: u32) {
         self.ask(Operation::OpenSession, 0, 0, 0);
         self.ask(Operation::OpenRepository, repository, 0, 0);
-        self.ask(Operation::StartRo, 0, 0, 0);
-        self.ask(Operation::RoAccess, model, 0, 0);
+        self.ask(Operation::StartRw, 0, 0, 0);
         self.ask(Operation::Get, plate, chip::PLATE_THICKNESS, 0);
+        self.ask(Operation::Promote, model, 0, 0);
+        self.ask(Operation::Put, plate, chip::PLATE_THICKNESS, 24);
+        self.ask(Operation::Get, plate, chip::PLATE_THICKNESS, 0);
+        self.ask(Operation::EndCommit, 0, 0, 0);
         self.ask(Operation::CloseSession, 0, 0, 0);
     }
 }
@@ -47,6 +52,6 @@ fn main() -> ExitCode {
     };
     walk.make_plate(0, 1, 7);
     walk.on.restart();
-    walk.read_plate(0, 0, 0);
+    walk.grind_plate(0, 0, 0);
     ExitCode::from(u8::from(walk.refused))
 }

@@ -542,6 +542,20 @@ static uint32_t end_access(machine *on, uint32_t model)
     return CHIP_DONE;
 }
 
+/* From RO access to RW. A model with access is one of an open repository, so that is not asked. */
+static uint32_t promote(machine *on, uint32_t model)
+{
+    if (!is_live_model(on, model))
+        return CHIP_MO_NEXS;
+    if (!has_access(on, model))
+        return CHIP_MX_NDEF;
+    if (has(on->session->rw, model))
+        return CHIP_MX_RW;
+    on->session->ro &= ~only(model);
+    on->session->rw |= only(model);
+    return CHIP_DONE;
+}
+
 /* SI_NEXS RP_NOPN, of 31 to 33. */
 static uint32_t schema_instance_refusal(const machine *on, uint32_t number)
 {
@@ -648,7 +662,7 @@ static int has_attribute(const uint64_t *instance, uint32_t attribute)
     return attribute < definition_of(instance[0])->attributes;
 }
 
-/* EI_NEXS RP_NOPN MX_NDEF AT_NDEF, of 42 and 43. */
+/* EI_NEXS RP_NOPN AT_NDEF, of 42 and 43. */
 static uint32_t read_refusal(const machine *on, uint32_t number, uint32_t attribute)
 {
     if (!is_live_instance(on, number))
@@ -656,11 +670,15 @@ static uint32_t read_refusal(const machine *on, uint32_t number, uint32_t attrib
     const uint64_t *instance = instance_at(on, number);
     if (!model_is_open(on, model_of(instance[0])))
         return CHIP_RP_NOPN;
-    if (!has_access(on, model_of(instance[0])))
-        return CHIP_MX_NDEF;
     if (!has_attribute(instance, attribute))
         return CHIP_AT_NDEF;
     return CHIP_DONE;
+}
+
+/* The model of what was read has RO access now, unless it has RW. */
+static void wake(machine *on, uint32_t model)
+{
+    on->session->ro |= only(model) & ~on->session->rw;
 }
 
 static uint32_t get_attribute(machine *on, uint32_t number, uint32_t attribute)
@@ -672,6 +690,7 @@ static uint32_t get_attribute(machine *on, uint32_t number, uint32_t attribute)
     if (!has(flags_of(instance[0]), attribute))
         return CHIP_VA_NSET;
     on->value = (uint32_t)instance[1 + attribute];
+    wake(on, model_of(instance[0]));
     return CHIP_DONE;
 }
 
@@ -680,7 +699,9 @@ static uint32_t test_attribute(machine *on, uint32_t number, uint32_t attribute)
     uint32_t refusal = read_refusal(on, number, attribute);
     if (refusal)
         return refusal;
-    on->value = (uint32_t)has(flags_of(*instance_at(on, number)), attribute);
+    const uint64_t *instance = instance_at(on, number);
+    on->value = (uint32_t)has(flags_of(instance[0]), attribute);
+    wake(on, model_of(instance[0]));
     return CHIP_DONE;
 }
 
@@ -752,9 +773,10 @@ static uint32_t subtype_test(machine *on, uint32_t type, uint32_t other)
 #define FROM_TO(first, last) (((uint64_t)2 << (last)) - ((uint64_t)1 << (first)))
 
 /* Bit n for operation n. */
-#define LISTED (FROM_TO(1, 13) | FROM_TO(20, 24) | FROM_TO(30, 33) | FROM_TO(40, 46))
+#define LISTED (FROM_TO(1, 13) | FROM_TO(20, 25) | FROM_TO(30, 33) | FROM_TO(40, 46))
 #define IN_TRANSACTION FROM_TO(20, 45)
-#define WRITERS (FROM_TO(20, 21) | FROM_TO(23, 23) | FROM_TO(30, 33) | FROM_TO(40, 41) | FROM_TO(44, 45))
+#define WRITERS \
+    (FROM_TO(20, 21) | FROM_TO(23, 23) | FROM_TO(25, 25) | FROM_TO(30, 33) | FROM_TO(40, 41) | FROM_TO(44, 45))
 
 /* What is asked of every call, and the transaction of 20 to 45. */
 static uint32_t general_refusal(const chip_session *session, uint32_t op)
@@ -800,6 +822,7 @@ static uint32_t perform(machine *on, uint32_t op, uint32_t a, uint32_t b, uint32
     case CHIP_RO_ACCESS: return start_access(on, a, &on->session->ro);
     case CHIP_RW_ACCESS: return start_access(on, a, &on->session->rw);
     case CHIP_END_ACCESS: return end_access(on, a);
+    case CHIP_PROMOTE: return promote(on, a);
     case CHIP_CREATE_SCHEMA_INSTANCE: return create_schema_instance(on, a, b, c);
     case CHIP_DELETE_SCHEMA_INSTANCE: return delete_schema_instance(on, a);
     case CHIP_ADD_MODEL: return add_model(on, a, b);

@@ -1,4 +1,4 @@
-/* A machine of document 01 in plain C, written from the page alone: what the library is compared with. */
+/* A machine of documents 01 and 02 in plain C, written from their text: what the library is compared with. */
 #ifndef MODEL_H
 #define MODEL_H
 

@@ -1,6 +1,7 @@
-// Document 01's cases at the edges that are not proved one by one, and what it calls easy to get wrong: each is run from
+// The page's cases at the edges that are not proved one by one, and what is easy to get wrong: each is run from
 // fresh, through `call`, so every state on the way is judged too. A case prints its name and then each call that it is
 // about, with the value or the refusal by its name. The calls that only lead there print nothing unless they are refused.
+mod access;
 mod asking;
 mod deletions;
 mod events;
@@ -15,6 +16,7 @@ fn main() {
     schema_instances::run();
     instances::run();
     references::run();
+    access::run();
     deletions::run();
     events::run();
 }

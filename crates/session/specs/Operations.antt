@@ -39,6 +39,7 @@ listed =
     ∷ 22 is (operation.Reader reader.ReadOnlyAccess)
     ∷ 23 is (operation.Writer writer.ReadWriteAccess)
     ∷ 24 is (operation.Reader reader.EndAccess)
+    ∷ 25 is (operation.Writer writer.PromoteModel)
     ∷ 30 is (operation.Writer writer.CreateSchemaInstance)
     ∷ 31 is (operation.Writer writer.DeleteSchemaInstance)
     ∷ 32 is (operation.Writer writer.AddModel)

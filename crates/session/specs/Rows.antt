@@ -27,7 +27,7 @@ use Rattle.session.specs.declared.state.State.{State}
 use Rattle.session.specs.declared.effects.Tables.the-variants.{Stay, Commit, Drop, Changed}
 use Rattle.session.specs.declared.effects.Effect.{Effect}
 use Rattle.session.specs.Refusals.{TR-EAB, TR-EXS, TR-NEXS, TR-NAVL, TR-NRW, RP-NEXS, RP-OPN, RP-NOPN, MO-NEXS, MO-DUP, MO-NDEQ, MO-NVLD, MX-RO, MX-RW, MX-NDEF, MX-NRW, SD-NDEF, SI-NEXS, SI-DUP, ED-NDEF, ED-NDEQ, ED-NVLD, EI-NEXS, AT-NDEF, VA-NSET, VA-NVLD, VT-NVLD}
-use Rattle.session.specs.States.{NONE, RO, RW, ABORTED, under, withRecording, withTransaction, withRepositories, withAccess, ended, closedState, openedState}
+use Rattle.session.specs.States.{NONE, RO, RW, ABORTED, under, withRecording, withTransaction, withRepositories, withAccess, woken, ended, closedState, openedState}
 use Rattle.session.specs.Checks.{Check, _gives_, firstOf, noRepository, notOpened, away, missing, noWriting, noAccess, lacksAttribute, schemasDiffer, typeForeign, typesDiffer, wrongType, apart, gate}
 use Rattle.session.specs.Effects.{does, unlessRefused, ifWriting, number, created}
 
@@ -47,6 +47,10 @@ inReach label refusal s rest = missing label gives refusal ∷ away s label give
 -- the entry with this first word is there, or this refusal is given, and model m has read-write access; and then the rest
 abbrev pub writable : ℕ → ℕ → ℕ → State → List Check → List Check
 writable first refusal m s rest = missing first gives refusal ∷ noWriting s m gives MX-NRW ∷ rest
+
+-- model m with this label is there, and it has access; and then the rest
+abbrev pub accessed : ℕ → ℕ → State → List Check → List Check
+accessed label m s rest = missing label gives MO-NEXS ∷ noAccess s m gives MX-NDEF ∷ rest
 
 -- ---- those that ask for an open session
 
@@ -88,7 +92,6 @@ abbrev pub reading : ℕ → ℕ → State → List ℕ → List Check → List 
 reading header k s w rest =
     missing header gives EI-NEXS
     ∷ away s (labelAt w Model (modelIn header)) gives RP-NOPN
-    ∷ noAccess s (modelIn header) gives MX-NDEF
     ∷ lacksAttribute header k gives AT-NDEF
     ∷ rest
 
@@ -97,10 +100,10 @@ readerRow reader.ReadOnlyAccess a b s w =
     inReach (labelAt w Model a) MO-NEXS s (has (s .ro) a gives MX-RO ∷ has (s .rw) a gives MX-RW ∷ [])
     then does 0 (withAccess s (insert (s .ro) a) (s .rw)) Stay
 readerRow reader.EndAccess a b s w =
-    missing (labelAt w Model a) gives MO-NEXS ∷ noAccess s a gives MX-NDEF ∷ []
-    then does 0 (withAccess s (remove (s .ro) a) (remove (s .rw) a)) Stay
-readerRow reader.Get a b s w = reading (headerAt w a) b s w (not (isSet w a b) gives VA-NSET ∷ []) then does (valueIn (valueAt w a b)) s Stay
-readerRow reader.Test a b s w = reading (headerAt w a) b s w [] then does (number (isSet w a b)) s Stay
+    accessed (labelAt w Model a) a s [] then does 0 (withAccess s (remove (s .ro) a) (remove (s .rw) a)) Stay
+readerRow reader.Get a b s w =
+    reading (headerAt w a) b s w (not (isSet w a b) gives VA-NSET ∷ []) then does (valueIn (valueAt w a b)) (woken s (modelAt w a)) Stay
+readerRow reader.Test a b s w = reading (headerAt w a) b s w [] then does (number (isSet w a b)) (woken s (modelAt w a)) Stay
 
 -- ---- those that ask for a transaction that writes
 
@@ -133,6 +136,9 @@ writerRow writer.DeleteModel a b c s w =
 writerRow writer.ReadWriteAccess a b c s w =
     inReach (labelAt w Model a) MO-NEXS s (has (s .rw) a gives MX-RW ∷ has (s .ro) a gives MX-RO ∷ [])
     then does 0 (withAccess s (s .ro) (insert (s .rw) a)) Stay
+writerRow writer.PromoteModel a b c s w =
+    accessed (labelAt w Model a) a s (has (s .rw) a gives MX-RW ∷ [])
+    then does 0 (withAccess s (remove (s .ro) a) (insert (s .rw) a)) Stay
 writerRow writer.CreateSchemaInstance a b c s w = creating SchemaInstance SI-DUP a b c s w then created SchemaInstance (labelOf a b c) s w
 writerRow writer.DeleteSchemaInstance a b c s w = inReach (labelAt w SchemaInstance a) SI-NEXS s [] then does 0 s (Changed (Gone SchemaInstance a))
 writerRow writer.AddModel a b c s w =

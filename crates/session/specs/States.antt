@@ -4,7 +4,7 @@ use mathlib.Core.Bool.{Bool, cond, _&&_}
 use mathlib.Core.List.{List, [], _∷_, _++_}
 use lib.Dec.{eqb, ltb}
 use lib.ListN.{set, drop, replicate}
-use Rattle.words.specs.Sets.{none}
+use Rattle.words.specs.Sets.{none, has, insert}
 use Rattle.session.specs.declared.state.State.{State}
 use Rattle.session.specs.declared.state.Event.{Event}
 use Rattle.session.specs.declared.state.Log.{Log}
@@ -42,6 +42,10 @@ withRepositories s r = record { opened = s .opened; recording = s .recording; tr
 
 abbrev pub withAccess : State → ℕ → ℕ → State
 withAccess s ro rw = record { opened = s .opened; recording = s .recording; transaction = s .transaction; repositories = s .repositories; ro = ro; rw = rw }
+
+-- model m is in the RO set unless it is in the RW set: one without access is woken
+abbrev pub woken : State → ℕ → State
+woken s m = cond (has (s .rw) m) s (withAccess s (insert (s .ro) m) (s .rw))
 
 -- all access ends
 abbrev pub ended : State → ℕ → State

@@ -4,10 +4,11 @@
 ghost use mathlib.Core.Path.{_≡_};
 ghost use mathlib.Core.Bool.{cond};
 ghost use Rattle.session.specs.Checks.{firstOf};
-ghost use Rattle.session.specs.Rows.{inReach, writable as writableOf};
+ghost use Rattle.session.specs.Rows.{inReach, writable as writableOf, accessed as accessedOf};
 ghost use Rattle.session.specs.Quick.Rows.{known};
 use crate::conditions::away;
 use crate::conditions::missing;
+use crate::conditions::no_access;
 use crate::conditions::no_writing;
 use crate::refusals;
 use crate::state::State;
@@ -38,5 +39,16 @@ pub fn writable(entry: u64, refusal: u32, m: u32, s: State, rest: u32) -> u32
         missing(entry),
         refusal,
         first(no_writing(s, m), refusals::MX_NRW, rest),
+    )
+}
+
+// Model m with this label is there, and it has access; and then the rest.
+pub fn accessed(label: u64, m: u32, s: State, rest: u32) -> u32
+    ensures { λ r. ⌜ r ≡ firstOf (accessedOf label m s (known rest)) ⌝ }
+{
+    first(
+        missing(label),
+        refusals::MO_NEXS,
+        first(no_access(s, m), refusals::MX_NDEF, rest),
     )
 }

@@ -3,12 +3,12 @@ ghost use mathlib.Core.Path.{_≡_};
 ghost use Rattle.session.specs.Checks.{firstOf};
 ghost use Rattle.session.specs.Rows.{reading as readingOf, readerRow};
 ghost use Rattle.session.specs.Quick.Rows.{known, rowDone};
+use crate::checks::accessed;
 use crate::checks::first;
 use crate::checks::in_reach;
 use crate::conditions::away;
 use crate::conditions::lacks_attribute;
 use crate::conditions::missing;
-use crate::conditions::no_access;
 use crate::effects::Effect;
 use crate::effects::Tables;
 use crate::effects::as_number;
@@ -19,6 +19,7 @@ use crate::operations::Reader;
 use crate::refusals;
 use crate::state::State;
 use crate::state::with_access;
+use crate::state::woken;
 use tables::view::header_at;
 use tables::view::label_at;
 use tables::view::value_at;
@@ -53,11 +54,7 @@ fn end_access(a: u32, s: State, w: &[u64]) -> Effect
     ensures { λ r. ⌜ r ≡ rowDone s (readerRow Reader.EndAccess a 0 s (now (w .entry))) ⌝ }
 {
     unless(
-        first(
-            missing(label_at(w, Kind::Model, a)),
-            refusals::MO_NEXS,
-            first(no_access(s, a), refusals::MX_NDEF, refusals::DONE),
-        ),
+        accessed(label_at(w, Kind::Model, a), a, s, refusals::DONE),
         s,
         moved(with_access(s, without(s.ro, a), without(s.rw, a))),
     )
@@ -67,18 +64,13 @@ fn end_access(a: u32, s: State, w: &[u64]) -> Effect
 fn reading(header: u64, k: u32, s: State, w: &[u64], rest: u32) -> u32
     ensures { λ r. ⌜ r ≡ firstOf (readingOf header k s (now (w .entry)) (known rest)) ⌝ }
 {
-    let m = model_in(header);
     first(
         missing(header),
         refusals::EI_NEXS,
         first(
-            away(s, label_at(w, Kind::Model, m)),
+            away(s, label_at(w, Kind::Model, model_in(header))),
             refusals::RP_NOPN,
-            first(
-                no_access(s, m),
-                refusals::MX_NDEF,
-                first(lacks_attribute(header, k), refusals::AT_NDEF, rest),
-            ),
+            first(lacks_attribute(header, k), refusals::AT_NDEF, rest),
         ),
     )
 }
@@ -96,7 +88,11 @@ fn get(i: u32, k: u32, s: State, w: &[u64]) -> Effect
             first(!is_flagged(header, k), refusals::VA_NSET, refusals::DONE),
         ),
         s,
-        done(value_in(value_at(w, i, k)), s, Tables::Stay),
+        done(
+            value_in(value_at(w, i, k)),
+            woken(s, model_in(header)),
+            Tables::Stay,
+        ),
     )
 }
 
@@ -107,7 +103,11 @@ fn test(i: u32, k: u32, s: State, w: &[u64]) -> Effect
     unless(
         reading(header, k, s, w, refusals::DONE),
         s,
-        done(as_number(is_flagged(header, k)), s, Tables::Stay),
+        done(
+            as_number(is_flagged(header, k)),
+            woken(s, model_in(header)),
+            Tables::Stay,
+        ),
     )
 }
 

@@ -1,8 +1,10 @@
 // A session, as a caller holds it between calls: integers alone, every bit pattern a value, and the test of soundness
 // judges each.
 ghost use mathlib.Core.Path.{_≡_};
-ghost use Rattle.session.specs.States.{isOpen, under as isUnder, withRecording, withTransaction, withRepositories, withAccess, ended as endedState, closedState, openedState};
+ghost use Rattle.session.specs.States.{isOpen, under as isUnder, withRecording, withTransaction, withRepositories, withAccess, woken as wokenIn, ended as endedState, closedState, openedState};
 use words::sets::EMPTY;
+use words::sets::has;
+use words::sets::with;
 
 // The transaction of a session.
 pub const NONE: u32 = 0;
@@ -92,6 +94,16 @@ pub fn with_access(mut s: State, ro: u64, rw: u64) -> State
     s.ro = ro;
     s.rw = rw;
     s
+}
+
+// Model m has read-only access unless it has access that writes: one without access is woken.
+pub fn woken(s: State, m: u32) -> State
+    ensures { λ r. ⌜ r ≡ wokenIn s m ⌝ }
+{
+    if has(s.rw, m) {
+        return s;
+    }
+    with_access(s, with(s.ro, m), s.rw)
 }
 
 // All access ends.

@@ -5,6 +5,7 @@ ghost use Rattle.session.specs.Checks.{firstOf};
 ghost use Rattle.session.specs.Effects.{does};
 ghost use Rattle.session.specs.Rows.{creating as creatingOf, writing as writingOf, referring as referringOf, writerRow};
 ghost use Rattle.session.specs.Quick.Rows.{known, rowDone};
+use crate::checks::accessed;
 use crate::checks::first;
 use crate::checks::in_reach;
 use crate::checks::writable;
@@ -122,6 +123,22 @@ fn read_write_access(a: u32, s: State, w: &[u64]) -> Effect
         ),
         s,
         moved(with_access(s, s.ro, with(s.rw, a))),
+    )
+}
+
+// The repository is not asked for: a model with access is one of an open repository.
+fn promote_model(a: u32, s: State, w: &[u64]) -> Effect
+    ensures { λ r. ⌜ r ≡ rowDone s (writerRow Writer.PromoteModel a 0 0 s (now (w .entry))) ⌝ }
+{
+    unless(
+        accessed(
+            label_at(w, Kind::Model, a),
+            a,
+            s,
+            first(has(s.rw, a), refusals::MX_RW, refusals::DONE),
+        ),
+        s,
+        moved(with_access(s, without(s.ro, a), with(s.rw, a))),
     )
 }
 
@@ -314,6 +331,7 @@ pub fn write(op: Writer, a: u32, b: u32, c: u32, s: State, w: &[u64]) -> Effect
         Writer::CreateModel => create_model(a, b, c, s, w),
         Writer::DeleteModel => delete_model(a, s, w),
         Writer::ReadWriteAccess => read_write_access(a, s, w),
+        Writer::PromoteModel => promote_model(a, s, w),
         Writer::CreateSchemaInstance => create_schema_instance(a, b, c, s, w),
         Writer::DeleteSchemaInstance => delete_schema_instance(a, s, w),
         Writer::AddModel => add_model(a, b, s, w),

@@ -69,6 +69,7 @@ use Rattle.session.proofs.state.with_recording.Reads as session-state-with-reco
 use Rattle.session.proofs.state.with_transaction.Reads as session-state-with-transaction
 use Rattle.session.proofs.state.with_repositories.Reads as session-state-with-repositories
 use Rattle.session.proofs.state.with_access.Reads as session-state-with-access
+use Rattle.session.proofs.state.woken.Reads as session-state-woken
 use Rattle.session.proofs.state.ended.Reads as session-state-ended
 use Rattle.session.proofs.state.closed_state.Reads as session-state-closed-state
 use Rattle.session.proofs.state.opened_state.Reads as session-state-opened-state
@@ -283,6 +284,9 @@ session-state-with-repositories-one κs a x y s s′ p q = p ∙ sym q
 
 pub session-state-with-access-one : (κs : _) (a : _) (x y : _) (s s′ : _) → session-state-with-access.Post κs a x s → session-state-with-access.Post κs a y s′ → x ≡ y
 session-state-with-access-one κs a x y s s′ p q = p ∙ sym q
+
+pub session-state-woken-one : (κs : _) (a : _) (x y : _) (s s′ : _) → session-state-woken.Post κs a x s → session-state-woken.Post κs a y s′ → x ≡ y
+session-state-woken-one κs a x y s s′ p q = p ∙ sym q
 
 pub session-state-ended-one : (κs : _) (a : _) (x y : _) (s s′ : _) → session-state-ended.Post κs a x s → session-state-ended.Post κs a y s′ → x ≡ y
 session-state-ended-one κs a x y s s′ p q = p ∙ sym q

@@ -159,7 +159,7 @@ module _ (q : Call) (value : ℕ) where
   unfolding listed
   all-read =
       refl also refl also refl also refl also refl also refl also refl also refl also refl also refl also refl also refl also refl also refl also refl
-      also refl also refl also refl also refl also refl also refl also refl also refl also refl also refl also refl also refl also refl also refl also no-more
+      also refl also refl also refl also refl also refl also refl also refl also refl also refl also refl also refl also refl also refl also refl also refl also no-more
 
   found : (n : ℕ) (rows : List Numbered) → AllRead q value rows → (lookup n rows ≡ operation.Unlisted) ⊎ Reads q value n (lookup n rows)
   unfolding lookup

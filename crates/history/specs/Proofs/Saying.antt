@@ -42,6 +42,7 @@ abbrev pub writerSays : Writer → ℕ → ℕ → ℕ → ℕ → Said
 writerSays writer.CreateModel a b c value = changes (Made Model value (labelOf a b c))
 writerSays writer.DeleteModel a b c value = changes (Gone Model a)
 writerSays writer.ReadWriteAccess a b c value = silent
+writerSays writer.PromoteModel a b c value = silent
 writerSays writer.CreateSchemaInstance a b c value = changes (Made SchemaInstance value (labelOf a b c))
 writerSays writer.DeleteSchemaInstance a b c value = changes (Gone SchemaInstance a)
 writerSays writer.AddModel a b c value = changes (Joined a b)

@@ -161,6 +161,7 @@ module _ (a b c : ℕ) (x : Session) (w k : List ℕ) (h : Sound x w k) (small :
       let q = is-writable (labelAt w Model a) MO-NEXS a (x .state) _ p in
       change _ (removed-after w good a (below Model a (q .there)))
   writer-speaks writer.ReadWriteAccess p e = quiet
+  writer-speaks writer.PromoteModel p e = quiet
   writer-speaks writer.CreateSchemaInstance p e =
       labelled SchemaInstance refl (λ z. kinds-apart z refl) (is-labelled SchemaInstance SI-DUP a b c (x .state) w p) e
   writer-speaks writer.DeleteSchemaInstance p e =

@@ -77,6 +77,7 @@ module _ (t u : List ℕ) (same : (kind : Kind) (i k : ℕ) → wordOf t kind i 
   writer-alike writer.CreateModel a b c s = simp (same, next-alike)
   writer-alike writer.DeleteModel a b c s = simp (same, held-alike)
   writer-alike writer.ReadWriteAccess a b c s = simp same
+  writer-alike writer.PromoteModel a b c s = simp same
   writer-alike writer.CreateSchemaInstance a b c s = simp (same, next-alike)
   writer-alike writer.DeleteSchemaInstance a b c s = simp same
   writer-alike writer.AddModel a b c s = simp same

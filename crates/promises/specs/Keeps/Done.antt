@@ -22,16 +22,16 @@ use Rattle.session.specs.declared.operations.Writer.{Writer}
 use Rattle.session.specs.declared.operations.Writer.the-variants as writer
 use Rattle.session.specs.declared.state.Session.{Session}
 use Rattle.session.specs.Refusals.{MO-NEXS, MO-DUP, SI-NEXS, SI-DUP, done}
-use Rattle.session.specs.States.{NONE, RO, RW, ABORTED, isOpen, under}
-use Rattle.session.specs.Checks.{gate}
-use Rattle.session.specs.Rows.{sessionRow, readerRow, writerRow, checks, effect}
+use Rattle.session.specs.States.{NONE, RO, RW, ABORTED, isOpen, under, woken}
+use Rattle.session.specs.Checks.{Check, gate}
+use Rattle.session.specs.Rows.{reading, sessionRow, readerRow, writerRow, checks, effect}
 use Rattle.session.specs.Laws.Range.{Clear, clear-first, clear-rest}
-use Rattle.promises.specs.Keeps.Passed.{Transacted, Writing, is-transacted, is-writing, in-reach, is-writable, may-write, is-labelled, put-sound}
-use Rattle.promises.specs.Keeps.Frame.{not-free-live}
+use Rattle.promises.specs.Keeps.Passed.{Transacted, Writing, is-transacted, is-writing, in-reach, is-writable, is-accessed, may-read, may-write, is-labelled, put-sound}
+use Rattle.promises.specs.Keeps.Frame.{not-free-live, live-below}
 use Rattle.promises.specs.Keeps.SessionFacts.{Sound}
-use Rattle.promises.specs.Keeps.Afterwards.{writing, going, dropped, committed, closed-sound}
+use Rattle.promises.specs.Keeps.Afterwards.{Leaves, writing, going, dropped, committed, closed-sound}
 use Rattle.promises.specs.Keeps.Sessions.{session-opened, unchanged, recorded, repository-made, repository-gone, started, commits, aborts, ends}
-use Rattle.promises.specs.Keeps.Access.{reads, writes, access-gone}
+use Rattle.promises.specs.Keeps.Access.{reads, wakes, writes, promotes, access-gone}
 use Rattle.promises.specs.Keeps.Changed.{After, model-created, group-created, instance-created, group-deleted, group-joined, group-left, attribute-put, attribute-unset, instance-deleted, model-deleted}
 
 module _ (a b c : ℕ) (x : Session) (w k : List ℕ) (h : Sound x w k) (small : c < 0x1_0000_0000) where
@@ -51,19 +51,27 @@ module _ (a b c : ℕ) (x : Session) (w k : List ℕ) (h : Sound x w k) (small :
   session-sound inSession.StorageFault opened p = ends x w k h opened ABORTED (omega arith) _ _ (dropped w k (x .state) (h .tables))
   session-sound inSession.IsSubtype opened p = unchanged x w k h opened
 
-  -- model a may be given access: it is live, and its repository is opened
-  may-see : isLive w Model a ≡ true → has (x .state .repositories) (repositoryIn (labelAt w Model a)) ≡ true
-      → (isLive w Model a && has (x .state .repositories) (repositoryIn (labelAt w Model a))) ≡ true
-  may-see live opened = and-both (isLive w Model a) (has (x .state .repositories) (repositoryIn (labelAt w Model a))) live opened
+  -- model m may be given access: it is live, and its repository is opened
+  may-see : (m : ℕ) → isLive w Model m ≡ true → has (x .state .repositories) (repositoryIn (labelAt w Model m)) ≡ true
+      → (isLive w Model m && has (x .state .repositories) (repositoryIn (labelAt w Model m))) ≡ true
+  may-see m live opened = and-both (isLive w Model m) (has (x .state .repositories) (repositoryIn (labelAt w Model m))) live opened
+
+  -- a read wakes the model of a live instance, which is live itself
+  read-sound : (rest : List Check) → Transacted (x .state) (reading (headerAt w a) b (x .state) w rest) → Leaves (x .log) (woken (x .state) (modelAt w a)) w k
+  read-sound rest g =
+      let q = may-read (headerAt w a) b (x .state) w rest (g .clear) in
+      let i = h .tables .working .instances a (live-below w Instance a (not-free-live w Instance a (q .there))) in
+      wakes x w k h (g .opened) (modelAt w a) (may-see (modelAt w a) (i .headed (q .there) .model) (q .is-open))
+      (going (x .state) (h .session .transaction) (g .not-aborted) (g .not-none))
 
   reader-sound : (o : Reader) → Transacted (x .state) (readerRow o a b (x .state) w .checks) → After x w k (readerRow o a b (x .state) w .effect)
   reader-sound reader.ReadOnlyAccess g =
       let q = in-reach (labelAt w Model a) MO-NEXS (x .state) _ (g .clear) in
-      reads x w k h (g .opened) a (may-see (not-free-live w Model a (q .there)) (q .is-open))
+      reads x w k h (g .opened) a (may-see a (not-free-live w Model a (q .there)) (q .is-open))
       (going (x .state) (h .session .transaction) (g .not-aborted) (g .not-none)) (clear-first _ _ (clear-rest _ _ (q .clear)))
   reader-sound reader.EndAccess g = access-gone x w k h (g .opened) a w (h .tables) (λ m apart. refl)
-  reader-sound reader.Get g = unchanged x w k h (g .opened)
-  reader-sound reader.Test g = unchanged x w k h (g .opened)
+  reader-sound reader.Get g = read-sound _ g
+  reader-sound reader.Test g = read-sound _ g
 
   writer-sound : (o : Writer) → isOpen (x .state) ≡ true → under (x .state) RW ≡ true → Clear (writerRow o a b c (x .state) w .checks)
       → writerRow o a b c (x .state) w .effect .refusal ≡ done → After x w k (writerRow o a b c (x .state) w .effect)
@@ -75,7 +83,10 @@ module _ (a b c : ℕ) (x : Session) (w k : List ℕ) (h : Sound x w k) (small :
       model-deleted x w k h opened rw-open a (not-free-live w Model a (q .there))
   writer-sound writer.ReadWriteAccess opened rw-open p e =
       let q = in-reach (labelAt w Model a) MO-NEXS (x .state) _ p in
-      writes x w k h opened a (may-see (not-free-live w Model a (q .there)) (q .is-open)) rw-open (clear-first _ _ (clear-rest _ _ (q .clear)))
+      writes x w k h opened a (may-see a (not-free-live w Model a (q .there)) (q .is-open)) rw-open (clear-first _ _ (clear-rest _ _ (q .clear)))
+  writer-sound writer.PromoteModel opened rw-open p e =
+      let q = is-accessed (labelAt w Model a) a (x .state) _ p in
+      promotes x w k h opened a (h .session .access a (live-below w Model a (not-free-live w Model a (q .there))) .may (q .access)) rw-open
   writer-sound writer.CreateSchemaInstance opened rw-open p e =
       let q = is-labelled SchemaInstance SI-DUP a b c (x .state) w p in
       group-created x w k h opened rw-open a b c (q .known) (q .lowest) (q .highest) small (q .new) e

@@ -1,13 +1,13 @@
 -- What a call knows once its checks are passed: a fact by name for each.
 use mathlib.Core.Path.{_≡_}
-use mathlib.Core.Bool.{Bool, true, false, true≢false}
+use mathlib.Core.Bool.{Bool, true, false, _||_, true≢false}
 use mathlib.Core.List.{List, _++_}
 use Prim.Native.Nat.{ℕ, _<_, _≤_}
 use lib.Dec.{leb}
 use borrow.Author.Tests.{not-false, leb-true, leb-false, lt-ltb}
 use Rattle.logic.specs.Laws.Bools.{and-left, and-right, and-both}
 use Rattle.words.specs.declared.layout.Kind.{Kind}
-use Rattle.words.specs.declared.layout.Kind.the-variants.{Instance}
+use Rattle.words.specs.declared.layout.Kind.the-variants.{Model, Instance}
 use Rattle.words.specs.Sets.{has}
 use Rattle.words.specs.Fields.{repositories, repositoryIn, modelIn, typeIn, isFree, isSchema}
 use Rattle.words.specs.Entries.{isTaken}
@@ -15,14 +15,14 @@ use Rattle.dictionary.specs.declared.answers.Attribute.{Attribute}
 use Rattle.dictionary.specs.declared.answers.Attribute.the-variants.{Lacking, Whole, Reference}
 use Rattle.dictionary.specs.Dictionary.{attributeOf, lacks}
 use Rattle.dictionary.specs.Subtype.{subtype}
-use Rattle.tables.specs.View.{isLive, typeAt}
+use Rattle.tables.specs.View.{isLive, labelAt, typeAt}
 use Rattle.tables.specs.Sound.{soundValue}
 use Rattle.session.specs.declared.operations.Writer.{Writer}
 use Rattle.session.specs.declared.operations.Operation.the-variants as operation
 use Rattle.session.specs.declared.state.State.{State}
 use Rattle.session.specs.States.{NONE, RO, ABORTED, isOpen, under}
 use Rattle.session.specs.Checks.{Check, transacted, gate}
-use Rattle.session.specs.Rows.{inReach, writable, writing, creating, referring}
+use Rattle.session.specs.Rows.{inReach, writable, accessed, reading, writing, creating, referring}
 use Rattle.session.specs.Laws.Range.{Clear}
 
 -- ---- the gate
@@ -72,6 +72,24 @@ pub record Writable (first m : ℕ) (s : State) (rest : List Check) : Type 0 whe
 pub is-writable : (first refusal m : ℕ) (s : State) (rest : List Check) → Clear (writable first refusal m s rest) → Writable first m s rest
 unfolding Clear
 is-writable first refusal m s rest p = record { there = p .0; access = not-false _ (p .1 .0); clear = p .1 .1 }
+
+-- model m is there, and it has access
+pub record Accessed (label m : ℕ) (s : State) : Type 0 where
+  pub there : isFree label ≡ false
+  pub access : (has (s .ro) m || has (s .rw) m) ≡ true
+
+pub is-accessed : (label m : ℕ) (s : State) (rest : List Check) → Clear (accessed label m s rest) → Accessed label m s
+unfolding Clear
+is-accessed label m s rest p = record { there = p .0; access = not-false _ (p .1 .0) }
+
+-- an instance is there, and the repository of its model is open
+pub record Readable (header : ℕ) (s : State) (w : List ℕ) : Type 0 where
+  pub there : isFree header ≡ false
+  pub is-open : has (s .repositories) (repositoryIn (labelAt w Model (modelIn header))) ≡ true
+
+pub may-read : (header k : ℕ) (s : State) (w : List ℕ) (rest : List Check) → Clear (reading header k s w rest) → Readable header s w
+unfolding Clear
+may-read header k s w rest p = record { there = p .0; is-open = not-false _ (p .1 .0) }
 
 -- an attribute that is there may be written
 pub record Written (header k : ℕ) (s : State) (rest : List Check) : Type 0 where

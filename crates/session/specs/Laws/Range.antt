@@ -145,6 +145,7 @@ unfolding allIn
 writer-fair writer.CreateModel a b c s w = creation-fair _ Model (labelOf a b c) s w refl
 writer-fair writer.DeleteModel a b c s w = fair refl refl
 writer-fair writer.ReadWriteAccess a b c s w = fair refl refl
+writer-fair writer.PromoteModel a b c s w = fair refl refl
 writer-fair writer.CreateSchemaInstance a b c s w = creation-fair _ SchemaInstance (labelOf a b c) s w refl
 writer-fair writer.DeleteSchemaInstance a b c s w = fair refl refl
 writer-fair writer.AddModel a b c s w = fair refl refl

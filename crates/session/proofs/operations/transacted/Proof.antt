@@ -16,7 +16,7 @@ use Rattle.session.proofs.operations.transacted.Tie as tie
 
 -- the single numbers of the `match`, the last first
 abbrev keys : List ℕ
-keys = 45 ∷ 44 ∷ 43 ∷ 42 ∷ 41 ∷ 40 ∷ 24 ∷ 23 ∷ 22 ∷ 21 ∷ 20 ∷ []
+keys = 45 ∷ 44 ∷ 43 ∷ 42 ∷ 41 ∷ 40 ∷ 25 ∷ 24 ∷ 23 ∷ 22 ∷ 21 ∷ 20 ∷ []
 
 returns : tie.Need-returns
 unfolding the-list
@@ -63,18 +63,22 @@ unfolding the-list
 returns-11 c = sym (ap operationOf (c .match .keys11))
 
 returns-12 : tie.Need-returns-12
-returns-12 c = c .of-schema-instances .ensures
+unfolding the-list
+returns-12 c = sym (ap operationOf (c .match .keys12))
 
 returns-13 : tie.Need-returns-13
-unfolding the-list allB among
-returns-13 c =
-    let n = c .before .before .args .number in
-    let outside = or-none _ _ (le-ltb n 20 (c .before .before .pre .0)) (none-among keys n (c .before .match .rest)) in
-    sym (between 30 (λ (i : ℕ). ltb i 20 || among keys i) refl n (c .if1 .taken) outside)
+returns-13 c = c .of-schema-instances .ensures
 
 returns-14 : tie.Need-returns-14
 unfolding the-list allB among
 returns-14 c =
+    let n = c .before .before .args .number in
+    let outside = or-none _ _ (le-ltb n 20 (c .before .before .pre .0)) (none-among keys n (c .before .match .rest)) in
+    sym (between 30 (λ (i : ℕ). ltb i 20 || among keys i) refl n (c .if1 .taken) outside)
+
+returns-15 : tie.Need-returns-15
+unfolding the-list allB among
+returns-15 c =
     let n = c .before .before .before .args .number in
     let outside = or-none _ _ (lt-leb n 33 (c .if2 .left)) (none-among keys n (c .before .before .match .rest)) in
     sym (between 46 (λ (i : ℕ). leb i 33 || among keys i) refl n (suc-le-suc (c .before .before .before .pre .1)) outside)
@@ -97,4 +101,5 @@ transacted-spec =
     returns-11
     returns-12
     returns-13
-    returns-14)
+    returns-14
+    returns-15)

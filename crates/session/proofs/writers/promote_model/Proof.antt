@@ -1,0 +1,24 @@
+-- The row's checks and effect, each part by its function's contract.
+use Rattle.session.specs.Checks.{firstOf}
+use borrow.Author.Needs.{needs}
+use Rattle.session.proofs.writers.promote_model.Statement.{statement}
+use Rattle.session.proofs.writers.promote_model.Tie as tie
+
+returns : tie.Need-returns
+unfolding firstOf
+returns c = cc
+
+pub promote-model-spec : {M : Type 1} → statement M
+promote-model-spec =
+    tie.close
+    (tie.spec
+    (λ c. search needs)
+    (λ c. search needs)
+    (λ c. search needs)
+    (λ c. search needs)
+    (λ c. search needs)
+    (λ c. search needs)
+    (λ c. search needs)
+    (λ c. search needs)
+    (λ c. search needs)
+    returns)
