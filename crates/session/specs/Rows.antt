@@ -48,7 +48,7 @@ inReach label refusal s rest = missing label gives refusal ∷ away s label give
 abbrev pub writable : ℕ → ℕ → ℕ → State → List Check → List Check
 writable first refusal m s rest = missing first gives refusal ∷ noWriting s m gives MX-NRW ∷ rest
 
--- model m with this label is there, and it has access; and then the rest
+-- 24 and 25: model m with this label is there, and it has access; and then the rest
 abbrev pub accessed : ℕ → ℕ → State → List Check → List Check
 accessed label m s rest = missing label gives MO-NEXS ∷ noAccess s m gives MX-NDEF ∷ rest
 

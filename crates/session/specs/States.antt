@@ -43,7 +43,7 @@ withRepositories s r = record { opened = s .opened; recording = s .recording; tr
 abbrev pub withAccess : State → ℕ → ℕ → State
 withAccess s ro rw = record { opened = s .opened; recording = s .recording; transaction = s .transaction; repositories = s .repositories; ro = ro; rw = rw }
 
--- model m is in the RO set unless it is in the RW set: one without access is woken
+-- what a read leaves (CHIP, operations: access): model m is in the RO set unless it is in the RW set
 abbrev pub woken : State → ℕ → State
 woken s m = cond (has (s .rw) m) s (withAccess s (insert (s .ro) m) (s .rw))
 

@@ -50,8 +50,8 @@ pub fn is_within(set: u64, other: u64) -> bool
     set & other == set
 }
 
-// An instance lies in a live model of its type's schema (CHIP, sound tables). A model past the last is found out among the strays, and the
-// bit is asked for in one expression, not by `has`: so the compiler makes one instruction of it.
+// An instance lies in a live model of its type's schema (CHIP, sound tables). A model past the last is found out among the
+// strays, and the bit is asked for in one expression, not by `has`: so the compiler makes one instruction of it.
 pub fn model_fits(live: Live, ty: u32, h: u64) -> bool
     ensures { λ r. ⌜ r ≡ modelFits live ty h ⌝ }
 {
