@@ -1,7 +1,9 @@
 // Deletions: what goes with one, whether an instance that stays holds it back, and what it writes.
 ghost use mathlib.Core.Path.{_≡_};
+ghost use Prim.Native.Nat.{_<_};
+ghost use lib.ListN.{length};
 ghost use Rattle.words.specs.declared.layout.Kind.the-variants as kinds;
-ghost use Rattle.words.specs.Layout.{countOf};
+ghost use Rattle.words.specs.Layout.{countOf, placeOf};
 ghost use Rattle.words.specs.Fields.{values};
 ghost use Rattle.tables.specs.Quick.Going as quick;
 ghost use Rattle.tables.specs.Deletions.{goesWith, holdsBack, heldBack, detached, sweptAt, swept, ungrouped, without};
@@ -11,8 +13,12 @@ use crate::going;
 use crate::going::Going;
 use crate::pointers::pointer_in;
 use crate::view::header_at;
+use crate::view::is_set;
 use crate::view::value_at;
+use words::copies::is_long;
 use words::entries::clear;
+use words::entries::first_word;
+use words::entries::present;
 use words::fields::VALUES;
 use words::fields::model_in;
 use words::layout::Kind;
@@ -39,9 +45,10 @@ fn goes_with(t: &[u64], kind: Kind, n: u32, j: u64) -> bool
 // An instance outside what goes refers into it, and its model has no RW access. Access is asked first: it
 // needs no dictionary.
 fn holds_back(t: &[u64], kind: Kind, n: u32, rw: u64, i: u32) -> bool
+    requires { ⌜ (i < countOf kinds.Instance) × (placeOf kinds.Instance i < length (now t)) ⌝ }
     ensures { λ r. ⌜ r ≡ holdsBack (now (t .entry)) (goesWith (now (t .entry)) kind n) rw i ⌝ }
 {
-    let header = header_at(t, i);
+    let header = first_word(t, Kind::Instance, i);
     if has(rw, model_in(header)) {
         return false;
     }
@@ -59,7 +66,7 @@ fn holds_back(t: &[u64], kind: Kind, n: u32, rw: u64, i: u32) -> bool
 pub fn held_back(t: &[u64], kind: Kind, n: u32, rw: u64) -> bool
     ensures { λ r. ⌜ r ≡ heldBack (now (t .entry)) kind n rw ⌝ }
 {
-    let all = count(Kind::Instance);
+    let all = present(t, Kind::Instance);
     let mut i = 0;
     while i < all {
         if holds_back(t, kind, n, rw, i) {
@@ -83,7 +90,45 @@ fn detach(t: &mut [u64], g: Going, i: u32)
     }
 }
 
-fn sweep_at(t: &mut [u64], g: Going, i: u32)
+// Attribute k of instance i may refer to one that goes.
+fn may_refer(t: &[u64], g: Going, i: u32, k: u32) -> bool
+    ensures { λ r. ⌜ r ≡ quick.mayRefer (now (t .entry)) g i k ⌝ }
+{
+    if going::may_go(g, value_at(t, i, k)) {
+        return is_set(t, i, k);
+    }
+    false
+}
+
+// Instance i may go or refer to one that goes. A reference stands second or third.
+fn may_change(t: &[u64], g: Going, i: u32) -> bool
+    ensures { λ r. ⌜ r ≡ quick.mayChange (now (t .entry)) g i ⌝ }
+{
+    if going::may_go(g, i as u64) {
+        return true;
+    }
+    if may_refer(t, g, i, 1) {
+        return true;
+    }
+    may_refer(t, g, i, 2)
+}
+
+// Instance i surely stays as it is. Most do, and are told by three words and no type. The length is asked for here, so that
+// the compiler need not ask at each word.
+fn is_passed(t: &[u64], g: Going, i: u32) -> bool
+    ensures { λ r. ⌜ r ≡ quick.isPassed (now (t .entry)) g i ⌝ }
+{
+    if !is_long(t) {
+        return false;
+    }
+    if g.beyond != 0 {
+        return false;
+    }
+    !may_change(t, g, i)
+}
+
+// Instance i is freed if it goes, and else without a reference to one that goes.
+fn settle(t: &mut [u64], g: Going, i: u32)
     ensures { λ _. ⌜ now (t .exit) ≡ sweptAt (now (t .entry)) (quick.goes g) i ⌝ }
 {
     if going::goes(g, i as u64) {
@@ -91,6 +136,15 @@ fn sweep_at(t: &mut [u64], g: Going, i: u32)
     } else {
         detach(t, g, i);
     }
+}
+
+fn sweep_at(t: &mut [u64], g: Going, i: u32)
+    ensures { λ _. ⌜ now (t .exit) ≡ sweptAt (now (t .entry)) (quick.goes g) i ⌝ }
+{
+    if is_passed(t, g, i) {
+        return;
+    }
+    settle(t, g, i);
 }
 
 // Those that go are freed and references to them unset, the last instance included.

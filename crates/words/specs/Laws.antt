@@ -3,4 +3,5 @@ pub mod Layout
 pub mod Sets
 pub mod Fields
 pub mod Entries
+pub mod Present
 pub mod Copies

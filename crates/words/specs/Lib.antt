@@ -3,4 +3,5 @@ pub mod Sets
 pub mod Fields
 pub mod Entries
 pub mod Copies
+pub mod Quick
 pub mod Laws

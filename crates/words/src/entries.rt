@@ -1,10 +1,13 @@
 // Reading and writing the words of an entry. A number past the last entry reads as free, and
 // writing there changes nothing.
 ghost use mathlib.Core.Path.{_≡_};
-ghost use lib.ListN.{getD, set};
-ghost use Rattle.words.specs.Layout.{strideOf};
+ghost use Prim.Native.Nat.{_<_};
+ghost use lib.ListN.{length, getD, set};
+ghost use Rattle.words.specs.Layout.{strideOf, countOf, placeOf};
 ghost use Rattle.words.specs.Entries.{inEntry, wordOf, withWord, filled, withEntry, withoutEntry};
+ghost use Rattle.words.specs.Quick.Present.{presentIn, Present};
 use crate::layout::Kind;
+use crate::layout::base;
 use crate::layout::count;
 use crate::layout::place;
 use crate::layout::stride;
@@ -40,6 +43,31 @@ pub fn read(t: &[u64], kind: Kind, i: u32, k: u32) -> u64
     } else {
         0
     }
+}
+
+// How many entries have their first word in the table, so that a loop over them need not ask at each.
+pub fn present(t: &[u64], kind: Kind) -> u32
+    ensures { λ r. ⌜ (r ≡ presentIn kind (length (now (t .entry)))) × Present (now (t .entry)) kind r ⌝ }
+{
+    let n = t.len();
+    let from = base(kind);
+    if n <= from {
+        return 0;
+    }
+    let all = count(kind);
+    let reached = (n - from - 1) / stride(kind) + 1;
+    if reached < (all as usize) {
+        return reached as u32;
+    }
+    all
+}
+
+// The first word of such an entry.
+pub fn first_word(t: &[u64], kind: Kind, i: u32) -> u64
+    requires { ⌜ (i < countOf kind) × (placeOf kind i < length (now t)) ⌝ }
+    ensures { λ r. ⌜ r ≡ wordOf (now (t .entry)) kind i 0 ⌝ }
+{
+    t[place(kind, i)]
 }
 
 pub fn write(t: &mut [u64], kind: Kind, i: u32, k: u32, w: u64)

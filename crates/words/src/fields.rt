@@ -114,8 +114,9 @@ pub fn is_free(w: u64) -> bool
     w == 0
 }
 
+// Repository and name are compared at once.
 pub fn is_named(w: u64, repository: u32, name: u32) -> bool
     ensures { λ r. ⌜ r ≡ isNamed w repository name ⌝ }
 {
-    (w != 0) & (repository_in(w) == repository) & (name_in(w) == name)
+    (w != 0) & (w % 0x100_0000_0000 == (name as u64) + 0x1_0000_0000 * (repository as u64))
 }

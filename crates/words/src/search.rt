@@ -1,20 +1,20 @@
 // Searches over all entries of a kind, the last one included.
 ghost use mathlib.Core.Path.{_≡_};
 ghost use Rattle.words.specs.Entries.{firstFree, nextFree, isTaken};
-use crate::entries::read;
+use crate::entries::first_word;
+use crate::entries::present;
 use crate::fields::is_free;
 use crate::fields::is_named;
 use crate::layout::Kind;
-use crate::layout::count;
 
-// The lowest free entry from a given one on; not below the count if there is none.
+// The lowest free entry from a given one on; not below the count if there is none. One that is not present is free.
 fn first_free(t: &[u64], kind: Kind, from: u32) -> u32
     ensures { λ r. ⌜ r ≡ firstFree (now (t .entry)) kind from ⌝ }
 {
-    let n = count(kind);
+    let n = present(t, kind);
     let mut i = from;
     while i < n {
-        if is_free(read(t, kind, i, 0)) {
+        if is_free(first_word(t, kind, i)) {
             return i;
         }
         i += 1;
@@ -33,10 +33,10 @@ pub fn next_free(t: &[u64], kind: Kind) -> u32
 pub fn is_taken(t: &[u64], kind: Kind, repository: u32, name: u32) -> bool
     ensures { λ r. ⌜ r ≡ isTaken (now (t .entry)) kind repository name ⌝ }
 {
-    let n = count(kind);
+    let n = present(t, kind);
     let mut i = 0;
     while i < n {
-        if is_named(read(t, kind, i, 0), repository, name) {
+        if is_named(first_word(t, kind, i), repository, name) {
             return true;
         }
         i += 1;

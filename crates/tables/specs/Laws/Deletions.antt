@@ -28,6 +28,9 @@ module _ (t : List ℕ) (gone : ℕ → Bool) (access i : ℕ) where
   pub bare-holds : pointerIn (headerAt t i) ≡ values → holdsBack t gone access i ≡ false
   bare-holds e = rw (none-from values (refers t gone i) (λ k l. no-pointer t gone i e k), and-false)
 
+  pub free-holds : headerAt t i ≡ 0 → holdsBack t gone access i ≡ false
+  free-holds e = rw e
+
   pub gone-holds : gone i ≡ true → holdsBack t gone access i ≡ false
   gone-holds e = rw (e, and-ended (isLive t Instance i) false refl)
 
@@ -52,7 +55,7 @@ type-kept t i k l =
     first = word-other t Instance i (1 + k) 0 Instance i 0 (λ s. omega (arith, s .places))
 
 module _ (t : List ℕ) (gone : ℕ → Bool) (i : ℕ) where
-  unchanged : (n : ℕ) → ((k : ℕ) → k < n → refers t gone i k ≡ false) → detached t gone i n ≡ t
+  pub unchanged : (n : ℕ) → ((k : ℕ) → k < n → refers t gone i k ≡ false) → detached t gone i n ≡ t
   unfolding detached
   unchanged zero h = refl
   unchanged (suc n) h =

@@ -1,19 +1,29 @@
 -- The set of those that go: what is in it after a number is added, and that it is the one that the definitions name.
 use mathlib.Core.Path.{_≡_, refl, sym, ap, _∙_, fun-ext}
-use mathlib.Core.Bool.{Bool, true, false, _||_, or-false}
+use mathlib.Core.Bool.{Bool, true, false, not, _&&_, _||_, or-false}
+use mathlib.Core.Logic.{_⊎_, inl, inr}
 use mathlib.Core.List.{List}
-use Prim.Native.Nat.{ℕ, _+_, _-_, _≤_, _<_}
-use native.Mathlib.Decide.{decLt}
+use Prim.Native.Nat.{ℕ, _+_, _-_, _%_, _≤_, _<_}
+use native.Mathlib.Decide.{decLt, ℕ-discrete}
 use native.Mathlib.Omega.{arith}
 use lib.Dec.{eqb}
-use borrow.Author.Tests.{lt-ltb, le-ltb, eq-eqb, ne-eqb, eqb-true, eqb-false}
+use borrow.Author.Tests.{lt-ltb, le-ltb, eq-eqb, ne-eqb, eqb-true, eqb-false, not-true}
 use Rattle.words.specs.declared.layout.Kind.the-variants.{Model, Instance}
 use Rattle.words.specs.Layout.{countOf}
+use Rattle.words.specs.Copies.{isLong}
 use Rattle.words.specs.Sets.{bits, none, has, insert}
-use Rattle.words.specs.Laws.Sets.{has-insert, has-none, set-member}
+use Rattle.words.specs.Fields.{values}
+use Rattle.logic.specs.Laws.Bools.{and-left, and-right, and-ended, clash}
+use Rattle.words.specs.Laws.Sets.{has-insert, has-none, set-member, or-lacks}
+use Rattle.dictionary.specs.Dictionary.{isReference, attributeOf}
+use Rattle.dictionary.specs.Quick.References.{noReference, referenceOf}
+use Rattle.dictionary.specs.Laws.References.{reference-among}
+use Rattle.tables.specs.View.{typeAt, isSet, valueAt}
 use Rattle.tables.specs.declared.going.Going.{Going}
-use Rattle.tables.specs.Deletions.{goesWith, swept}
-use Rattle.tables.specs.Quick.Going.{goes, nothing, withNumber, oneGoing, halfOf, gathered}
+use Rattle.tables.specs.Deletions.{goesWith, refers, sweptAt, swept}
+use Rattle.tables.specs.Quick.Going.{goes, mayGo, mayRefer, mayChange, isPassed, nothing, withNumber, oneGoing, halfOf, gathered}
+use Rattle.tables.specs.Laws.Pointers.{refers-other, unset-refers}
+use Rattle.tables.specs.Laws.Deletions.{unchanged}
 
 -- where a number stands
 data Zone (j : ℕ) : Type 0 where
@@ -127,3 +137,49 @@ module _ (t : List ℕ) where
 
   pub swept-those : (m : ℕ) → swept t (goes (gathered t m)) (countOf Instance) ≡ swept t (goesWith t Model m) (countOf Instance)
   swept-those m = ap (λ (f : ℕ → Bool). swept t f (countOf Instance)) (goes-those t m)
+
+-- ---- what the sweep passes by
+
+neither : (a b : Bool) → (a || b) ≡ false → (a ≡ false) × (b ≡ false)
+neither false b h = (refl, h)
+neither true b h = clash true refl h
+
+module _ (t : List ℕ) (g : Going) (near : g .beyond ≡ 0) where
+  -- the low bits of a number tell the truth where they say no
+  may-not : (j : ℕ) → mayGo g j ≡ false → goes g j ≡ false
+  may-not j h = at (zone j) (or-lacks (g .low) (g .high) (j % bits) h)
+    where
+      at : Zone j → (has (g .low) (j % bits) ≡ false) × (has (g .high) (j % bits) ≡ false) → goes g j ≡ false
+      at (in-low l) w =
+          let same : j % bits ≡ j = omega arith in
+          goes-low g j l ∙ (rw same at (w .0))
+      at (in-high l m) w =
+          let same : j % bits ≡ j - bits = omega arith in
+          goes-high g j l m ∙ (rw same at (w .1))
+      at (past l) w = goes-past g j l ∙ ne-eqb j (g .beyond) (λ e. omega arith)
+
+  may-not-refer : (i k : ℕ) → mayRefer t g i k ≡ false → refers t (goes g) i k ≡ false
+  may-not-refer i k h = by-cases (mayGo g (valueAt t i k)) refl h
+    where
+      by-cases : (b : Bool) → mayGo g (valueAt t i k) ≡ b → (b && isSet t i k) ≡ false → refers t (goes g) i k ≡ false
+      by-cases true e unset = unset-refers t (goes g) i k unset
+      by-cases false e h = and-ended (isReference (attributeOf (typeAt t i) k) && isSet t i k) (goes g (valueAt t i k)) (may-not (valueAt t i k) e)
+
+  -- only what stands second or third is a reference
+  may-not-any : (i : ℕ) → mayRefer t g i 1 ≡ false → mayRefer t g i 2 ≡ false → (k : ℕ) → refers t (goes g) i k ≡ false
+  may-not-any i first second k = by-cases (ℕ-discrete k (referenceOf (typeAt t i))) (reference-among (typeAt t i))
+    where
+      by-cases : Dec (k ≡ referenceOf (typeAt t i)) → (referenceOf (typeAt t i) ≡ 1) ⊎ ((referenceOf (typeAt t i) ≡ 2) ⊎ (referenceOf (typeAt t i) ≡ noReference)) → refers t (goes g) i k ≡ false
+      by-cases (no n) w = refers-other t (goes g) i k n
+      by-cases (yes q) (inl e) = ap (refers t (goes g) i) (q ∙ e) ∙ may-not-refer i 1 first
+      by-cases (yes q) (inr (inl e)) = ap (refers t (goes g) i) (q ∙ e) ∙ may-not-refer i 2 second
+      by-cases (yes q) (inr (inr e)) = ap (refers t (goes g) i) (q ∙ e) ∙ unset-refers t (goes g) i noReference refl
+
+-- **An instance that is passed by stays as it is.**
+pub passed-stays : (t : List ℕ) (g : Going) (i : ℕ) → isPassed t g i ≡ true → sweptAt t (goes g) i ≡ t
+passed-stays t g i h =
+    let near : g .beyond ≡ 0 = eqb-true (g .beyond) 0 (and-right (isLong t) (eqb (g .beyond) 0) (and-left (isLong t && eqb (g .beyond) 0) (not (mayChange t g i)) h)) in
+    let still : mayChange t g i ≡ false = not-true (mayChange t g i) (and-right (isLong t && eqb (g .beyond) 0) (not (mayChange t g i)) h) in
+    let both = neither (mayGo g i || mayRefer t g i 1) (mayRefer t g i 2) still in
+    let one = neither (mayGo g i) (mayRefer t g i 1) (both .0) in
+    rw (may-not t g near i (one .0)) (unchanged t (goes g) i values (λ k l. may-not-any t g near i (one .1) (both .1) k))

@@ -82,7 +82,7 @@ module _ (t : List ℕ) (gone : ℕ → Bool) (i : ℕ) where
   pub refers-other : (k : ℕ) → (k ≡ referenceOf (typeAt t i) → ⊥) → refers t gone i k ≡ false
   refers-other k n = rw (reference-other (typeAt t i) k n)
 
-  unset-refers : (k : ℕ) → isSet t i k ≡ false → refers t gone i k ≡ false
+  pub unset-refers : (k : ℕ) → isSet t i k ≡ false → refers t gone i k ≡ false
   unset-refers k e = rw (e, and-ended (isReference (attributeOf (typeAt t i) k)) false refl)
 
   the-reference : (b : Bool) → flagged (headerAt t i) (referenceOf (typeAt t i)) ≡ b → (cond b (referenceOf (typeAt t i)) values ≡ values → ⊥)

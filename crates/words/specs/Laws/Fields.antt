@@ -24,6 +24,17 @@ module _ (repository schema name : ℕ) (hr : repository < 256) (hs : schema < 2
   pub schema-of-label : schemaIn (labelOf repository schema name) ≡ schema
   schema-of-label = omega arith
 
+-- repository and name at once, in a test with any other condition
+pub named-at-once : (b : Bool) (w repository name : ℕ) → name < 0x1_0000_0000
+    → (b && eqb (w % 0x100_0000_0000) (name + 0x1_0000_0000 * repository)) ≡ (b && eqb (repositoryIn w) repository && eqb (nameIn w) name)
+named-at-once false w repository name h = refl
+named-at-once true w repository name h = tell (eqb (repositoryIn w) repository) (eqb (nameIn w) name) refl refl
+  where
+    tell : (b c : Bool) → eqb (repositoryIn w) repository ≡ b → eqb (nameIn w) name ≡ c → eqb (w % 0x100_0000_0000) (name + 0x1_0000_0000 * repository) ≡ (b && c)
+    tell true true p q = eq-eqb (w % 0x100_0000_0000) (name + 0x1_0000_0000 * repository) (omega (arith, eqb-true (repositoryIn w) repository p, eqb-true (nameIn w) name q))
+    tell true false p q = ne-eqb (w % 0x100_0000_0000) (name + 0x1_0000_0000 * repository) (λ e. eqb-false (nameIn w) name q (omega arith))
+    tell false c p q = ne-eqb (w % 0x100_0000_0000) (name + 0x1_0000_0000 * repository) (λ e. eqb-false (repositoryIn w) repository p (omega arith))
+
 pub record Label (w : ℕ) : Type 0 where
   pub small : w < 0x1_0000_0000_0000
   pub repository : repositoryIn w < repositories

@@ -3,13 +3,13 @@ use mathlib.Core.Path.{_≡_, refl, sym, ap, _∙_}
 use mathlib.Core.Bool.{Bool, true, false, cond, not, _&&_, _||_}
 use mathlib.Core.Logic.{⊎-elim}
 use mathlib.Core.List.{List, _∷_, List·Memᴰ}
-use Prim.Native.Nat.{ℕ, zero, suc, _+_, _-_, _*_, _/_, _%_, _^_, _≤_, _<_}
-use native.Mathlib.Nat.{pow-suc, mul-assoc, zero-div, div-one, zero-mul, one-mul, mod-eq-of-lt, div-eq-of-lt, lt-of-lt-of-le, add-zero, add-suc, suc-add, eq-or-lt-of-le, le-of-suc-le-suc}
+use Prim.Native.Nat.{ℕ, zero, suc, _+_, _-_, _*_, _/_, _%_, _^_, _≤_, _<_, max}
+use native.Mathlib.Nat.{pow-suc, mul-assoc, zero-div, div-one, zero-mul, one-mul, mod-eq-of-lt, div-eq-of-lt, lt-of-lt-of-le, add-zero, add-suc, suc-add, eq-or-lt-of-le, le-of-suc-le-suc, le-max-left, le-max-right, max-le}
 use native.Mathlib.Numerals.{add-one, one-add}
 use native.Mathlib.Omega.{arith}
 use lib.Dec.{eqb, lit<, eqb·suc-zero, eqb·zero-suc, eqb·suc-suc}
 use lib.Pow.{pow-add, pow-mono, pow-lt, shr-shr}
-use lib.Bits.{bitAnd, bitOr, and-high, or-add-and}
+use lib.Bits.{bitAnd, bitOr, and-high, or-add-and, or-shr, or-step}
 use lib.Count.{ones, ones-step, ones-ones, ones-le}
 use lib.ListN.{length}
 use borrow.Author.Tests.{eq-eqb, ne-eqb, eqb-true, eqb-false, lt-ltb}
@@ -193,6 +193,16 @@ or-bit s m = whole (bitOf s m) (2 ^ m) (bit-small s m) (ap (λ (x : ℕ). bitOr 
     whole zero p h e = omega (arith, zero-mul p)
     whole (suc zero) p h e = omega (arith, zero-mul p)
     whole (suc (suc b)) p h e = absurd (omega arith)
+
+-- what is not in two sets together is in neither
+pub or-lacks : (s t m : ℕ) → has (bitOr s t) m ≡ false → (has s m ≡ false) × (has t m ≡ false)
+or-lacks s t m h = tell (s / 2 ^ m) (t / 2 ^ m) (rw (or-shr s t m) at h)
+  where
+    tell : (x y : ℕ) → eqb (bitOr x y % 2) 1 ≡ false → (eqb (x % 2) 1 ≡ false) × (eqb (y % 2) 1 ≡ false)
+    tell x y h =
+        let apart : bitOr x y % 2 ≡ 1 → ⊥ = eqb-false (bitOr x y % 2) 1 h in
+        let small : max (x % 2) (y % 2) ≤ 1 = max-le (omega arith) (omega arith) in
+        (ne-eqb (x % 2) 1 (λ e. apart (omega (arith, or-step x y, le-max-left (x % 2) (y % 2)))), ne-eqb (y % 2) 1 (λ e. apart (omega (arith, or-step x y, le-max-right (x % 2) (y % 2)))))
 
 -- one bit of a word is a word
 pub one-shifted : (m : ℕ) → m < bits → 1 * 2 ^ m % 2 ^ bits ≡ 2 ^ m

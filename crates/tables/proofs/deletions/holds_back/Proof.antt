@@ -10,10 +10,10 @@ use Rattle.tables.proofs.deletions.holds_back.Statement.{statement}
 use Rattle.tables.proofs.deletions.holds_back.Tie as tie
 
 access : (c : tie.After-has) → (let a = c .before .before .before .before .args in has (a .«rw») (modelAt (a .t .now) (a .i)) ≡ c .has .result)
-access c = sym (rw (c .before .model-in .ensures, c .before .before .header-at .ensures) at (c .has .ensures))
+access c = sym (rw (c .before .model-in .ensures, c .before .before .first-word .ensures) at (c .has .ensures))
 
 pointer : (c : tie.After-pointer-in) → (let a = c .before .before .before .before .before .before .args in c .pointer-in .result ≡ pointerIn (headerAt (a .t .now) (a .i)))
-pointer c = c .pointer-in .ensures ∙ ap pointerIn (c .before .before .before .before .header-at .ensures)
+pointer c = c .pointer-in .ensures ∙ ap pointerIn (c .before .before .before .before .first-word .ensures)
 
 returns : tie.Need-returns
 returns c =
