@@ -29,6 +29,8 @@ use Rattle.words.proofs.sets.without.Reads as words-sets-without
 use Rattle.words.proofs.sets.is_empty.Reads as words-sets-is-empty
 use Rattle.words.proofs.sets.size.Reads as words-sets-size
 use Rattle.words.proofs.entries.read.Reads as words-entries-read
+use Rattle.words.proofs.entries.present.Reads as words-entries-present
+use Rattle.words.proofs.entries.first_word.Reads as words-entries-first-word
 use Rattle.words.proofs.entries.write.Reads as words-entries-write
 use Rattle.words.proofs.entries.make.Reads as words-entries-make
 use Rattle.words.proofs.entries.clear.Reads as words-entries-clear
@@ -156,6 +158,12 @@ words-sets-size-one κs a x y s s′ p q = p ∙ sym q
 
 pub words-entries-read-one : (κs : _) (a : _) (x y : _) (s s′ : _) → words-entries-read.Post κs a x s → words-entries-read.Post κs a y s′ → x ≡ y
 words-entries-read-one κs a x y s s′ p q = p ∙ sym q
+
+pub words-entries-present-one : (κs : _) (a : _) (x y : _) (s s′ : _) → words-entries-present.Post κs a x s → words-entries-present.Post κs a y s′ → x ≡ y
+words-entries-present-one κs a x y s s′ p q = p .0 ∙ sym (q .0)
+
+pub words-entries-first-word-one : (κs : _) (a : _) (x y : _) (s s′ : _) → words-entries-first-word.Post κs a x s → words-entries-first-word.Post κs a y s′ → x ≡ y
+words-entries-first-word-one κs a x y s s′ p q = p ∙ sym q
 
 pub words-entries-write-one : (κs : _) (a : _) (x y : _) (s s′ : _) → words-entries-write.Post κs a x s → words-entries-write.Post κs a y s′ → now (s .0) ≡ now (s′ .0)
 words-entries-write-one κs a x y s s′ p q = p ∙ sym q

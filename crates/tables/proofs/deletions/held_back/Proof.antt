@@ -34,7 +34,8 @@ unfolding heldBack
 returns c =
     let a = c .before .before .before .before .before .before .args in
     let f = holdsBack (a .t .now) (goesWith (a .t .now) (a .kind) (a .n)) (a .«rw») in
-    sym (any-stop (countOf Instance) f (c .before .before .before .loop .i) (omega (arith, c .before .before .before .before .present .ensures .1 .within)) (sym (c .before .holds-back .ensures) ∙ c .if1 .taken))
+    let here = c .before .before .before .before .present .ensures .1 in
+    sym (any-stop (countOf Instance) f (c .before .before .before .loop .i) (omega (arith, here .within)) (sym (c .before .holds-back .ensures) ∙ c .if1 .taken))
 
 add-i : tie.Need-add-i Inv-loop μ-loop
 add-i c = omega (arith, c .before .before .before .before .present .ensures .1 .within)

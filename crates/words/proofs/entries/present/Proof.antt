@@ -17,7 +17,9 @@ use Rattle.words.proofs.entries.present.Tie as tie
 begins : (c : tie.After-stride) → (let a = c .before .before .before .before .before .args in baseOf (a .kind) < length (a .t .now))
 begins c = omega arith
 
-told : (c : tie.After-stride) → (let a = c .before .before .before .before .before .args in (length (a .t .now) - c .before .before .before .base .result - 1) / c .stride .result + 1 ≡ reached (a .kind) (length (a .t .now)))
+told : (c : tie.After-stride)
+    → (let a = c .before .before .before .before .before .args in
+    (length (a .t .now) - c .before .before .before .base .result - 1) / c .stride .result + 1 ≡ reached (a .kind) (length (a .t .now)))
 told c = rw (c .before .before .before .base .ensures, c .stride .ensures)
 
 returns : tie.Need-returns

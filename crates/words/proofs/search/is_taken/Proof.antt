@@ -32,7 +32,9 @@ first-word-requires c κs =
 returns : tie.Need-returns Inv-loop μ-loop
 returns c =
     let a = c .before .before .before .before .before .before .before .args in
-    sym (any-stop (countOf (a .kind)) (λ (j : ℕ). isNamed (wordOf (a .t .now) (a .kind) j 0) (a .repository) (a .name)) (c .before .before .before .before .loop .i) (omega (arith, c .before .before .before .before .before .present .ensures .1 .within))
+    let found = c .before .before .before .before in
+    sym (any-stop (countOf (a .kind)) (λ (j : ℕ). isNamed (wordOf (a .t .now) (a .kind) j 0) (a .repository) (a .name)) (found .loop .i)
+    (omega (arith, found .before .present .ensures .1 .within))
     (ap (λ (w : ℕ). isNamed w (a .repository) (a .name)) (sym (c .before .before .first-word .ensures)) ∙ sym (c .before .is-named .ensures) ∙ c .if1 .taken))
 
 add-i : tie.Need-add-i Inv-loop μ-loop
