@@ -48,7 +48,7 @@ static void time_best(side *s, const task *t, enum sort sort, unsigned long repe
 
 static int same_subject(const subject *one, const subject *other)
 {
-    return one->refusal == other->refusal && one->value == other->value &&
+    return one->refusal == other->refusal && one->value == other->value && one->place == other->place &&
            same_session(&one->chip.session, &other->chip.session) &&
            memcmp(one->chip.working, other->chip.working, sizeof one->chip.working) == 0 &&
            memcmp(one->chip.kept, other->chip.kept, sizeof one->chip.kept) == 0;

@@ -16,5 +16,6 @@ void NAMED(SIDE, rounds)(subject *on, enum sort sort, const call *calls, int cou
             on->chip.session = answer.session;
             on->refusal = answer.refusal;
             on->value = answer.value;
+            on->place = answer.place;
         }
 }

@@ -6,7 +6,7 @@
 
 typedef struct subject {
     chip chip;
-    uint32_t refusal, value; /* of the last answer */
+    uint32_t refusal, value, place; /* of the last answer */
 } subject;
 
 /* With the soundness test or without it. */

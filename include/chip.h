@@ -36,9 +36,9 @@
 #include <stdint.h>
 
 /* The edition counts the change requests that are in; 0 is the base. The number is 10000 * major + 100 * minor + patch. */
-#define CHIP_EDITION 1
-#define CHIP_VERSION "0.2.0"
-#define CHIP_VERSION_NUMBER 200
+#define CHIP_EDITION 2
+#define CHIP_VERSION "0.3.0"
+#define CHIP_VERSION_NUMBER 300
 
 #ifdef __cplusplus
 extern "C" {
@@ -117,17 +117,20 @@ enum chip_attribute {
 /* How many events a session holds. */
 #define CHIP_EVENTS 16
 
-/* A refusal that was recorded, and the number of the operation that it was given to. */
+/* A refusal that was recorded with its place, and the number of the operation that it was given to. The two bytes after
+ * `place` carry nothing. */
 typedef struct chip_event {
     uint32_t op;
-    uint32_t refusal;
+    uint8_t refusal;
+    uint8_t place; /* CHIP_PLACE_NONE to CHIP_PLACE_REFERENCE; any of them is sound beside any refusal */
 } chip_event;
 
 /* A session, as the caller holds it between calls. Every bit pattern is taken; one that is not sound is CHIP_SY_ERR. The
- * four bytes after the last field carry nothing: sessions are compared field by field, not by memcmp. */
+ * four bytes after the last field and the two at the end of each event carry nothing: sessions are compared field by field,
+ * and events too, not by memcmp. */
 typedef struct chip_session {
     chip_event events[CHIP_EVENTS]; /* the oldest first */
-    uint64_t count;                 /* how many events there are; the places after them are 0 */
+    uint64_t count;                 /* how many events there are; the fields of those after them are 0 */
     uint64_t repositories;          /* the open ones, bit r for repository r */
     uint64_t ro;                    /* models with read-only access, bit m for model m */
     uint64_t rw;                    /* models with read-write access */
@@ -136,9 +139,14 @@ typedef struct chip_session {
     uint32_t transaction;           /* CHIP_NONE to CHIP_ABORTED */
 } chip_session;
 
-/* What a call answers. A refusal has value 0 and has changed no word of a table. */
+/* What a call answers. A refusal has value 0 and has changed no word of a table.
+ *
+ * Beside edition 1: `place` is new, here and in an event, and stands in the upper half of what was the refusal, which has two
+ * bytes here and one in an event. Nothing else has moved, so the bytes of a sound session of edition 1 are a sound one here,
+ * with place 0 in every event. Code that was compiled for edition 1 has to be compiled again. */
 typedef struct chip_answer {
-    uint32_t refusal; /* CHIP_DONE or one of the refusals below */
+    uint16_t refusal; /* CHIP_DONE or one of the refusals below */
+    uint16_t place;   /* what the refusal is about: one of the places below */
     uint32_t value;
     chip_session session;
 } chip_answer;
@@ -205,7 +213,7 @@ enum chip_refusal {
     CHIP_MX_RO = 17,   /* the model has read-only access */
     CHIP_MX_RW = 18,   /* the model has read-write access */
     CHIP_MX_NDEF = 19, /* the model has no access */
-    CHIP_MX_NRW = 20,  /* the model, or one that refers to what would go, has no read-write access */
+    CHIP_MX_NRW = 20,  /* the model, or one that refers to what would go, has no read-write access: the place tells which */
     CHIP_SD_NDEF = 21, /* no such schema */
     CHIP_SI_NEXS = 22, /* no such schema instance */
     CHIP_SI_DUP = 23,  /* the repository has a schema instance of that name */
@@ -220,12 +228,27 @@ enum chip_refusal {
     CHIP_NO_ROOM = 32  /* every entry is live */
 };
 
+/* ---- the places ----
+ *
+ * A condition on two arguments names the later one. Where both types of CHIP_SUBTYPE_TEST are none, the first is named. */
+enum chip_place {
+    CHIP_PLACE_NONE = 0,             /* done, or about no argument: SY_ERR, FN_NAVL, session and transaction */
+    CHIP_PLACE_A = 1,                /* the argument that failed its check */
+    CHIP_PLACE_B = 2,
+    CHIP_PLACE_C = 3,
+    CHIP_PLACE_MODELS = 4,           /* CHIP_NO_ROOM: there is none for a model */
+    CHIP_PLACE_SCHEMA_INSTANCES = 5, /* for a schema instance */
+    CHIP_PLACE_INSTANCES = 6,        /* for an instance */
+    CHIP_PLACE_REFERENCE = 7         /* CHIP_MX_NRW: an instance that stays refers to what would go */
+};
+
 /* ---- the call ---- */
 
-/* What crosses the border has these sizes and places, or this header is not for this machine. */
+/* What crosses the border has these sizes and offsets, or this header is not for this machine. */
 #define CHIP_MUST_HOLD(name, fact) typedef char chip_must_hold_##name[(fact) ? 1 : -1]
 CHIP_MUST_HOLD(size_t_is_8_bytes, sizeof(size_t) == 8);
-CHIP_MUST_HOLD(event_is_8_bytes, sizeof(chip_event) == 8 && offsetof(chip_event, refusal) == 4);
+CHIP_MUST_HOLD(event_is_8_bytes, sizeof(chip_event) == 8 && offsetof(chip_event, refusal) == 4 &&
+                                     offsetof(chip_event, place) == 5);
 CHIP_MUST_HOLD(session_begins_with_events, offsetof(chip_session, events) == 0 && offsetof(chip_session, count) == 128);
 CHIP_MUST_HOLD(session_has_its_sets, offsetof(chip_session, repositories) == 136 && offsetof(chip_session, ro) == 144 &&
                                          offsetof(chip_session, rw) == 152);
@@ -233,7 +256,8 @@ CHIP_MUST_HOLD(session_ends_with_its_state, offsetof(chip_session, opened) == 16
                                                 offsetof(chip_session, recording) == 164 &&
                                                 offsetof(chip_session, transaction) == 168);
 CHIP_MUST_HOLD(session_is_176_bytes, sizeof(chip_session) == 176);
-CHIP_MUST_HOLD(answer_begins_with_its_numbers, offsetof(chip_answer, refusal) == 0 && offsetof(chip_answer, value) == 4);
+CHIP_MUST_HOLD(answer_begins_with_its_numbers, offsetof(chip_answer, refusal) == 0 && offsetof(chip_answer, place) == 2 &&
+                                                   offsetof(chip_answer, value) == 4);
 CHIP_MUST_HOLD(answer_is_184_bytes, offsetof(chip_answer, session) == 8 && sizeof(chip_answer) == 184);
 
 /* One operation: its number, its arguments, the session, the working and the kept table. */
@@ -254,6 +278,7 @@ typedef struct chip {
 typedef struct chip_result {
     uint32_t refusal;
     uint32_t value;
+    uint32_t place;
 } chip_result;
 
 /* All zeros. */
@@ -284,6 +309,7 @@ static inline chip_result chip_do(chip *on, uint32_t op, uint32_t a, uint32_t b,
     on->session = answer.session;
     result.refusal = answer.refusal;
     result.value = answer.value;
+    result.place = answer.place;
     return result;
 }
 
@@ -327,6 +353,22 @@ static inline const char *chip_refusal_name(uint32_t refusal)
     case CHIP_VT_NVLD: return "VT_NVLD";
     case CHIP_NO_ROOM: return "NO_ROOM";
     default: return "unknown refusal";
+    }
+}
+
+/* What it is, in words; "unknown place" for a number that is none. */
+static inline const char *chip_place_name(uint32_t place)
+{
+    switch (place) {
+    case CHIP_PLACE_NONE: return "none";
+    case CHIP_PLACE_A: return "argument a";
+    case CHIP_PLACE_B: return "argument b";
+    case CHIP_PLACE_C: return "argument c";
+    case CHIP_PLACE_MODELS: return "models";
+    case CHIP_PLACE_SCHEMA_INSTANCES: return "schema instances";
+    case CHIP_PLACE_INSTANCES: return "instances";
+    case CHIP_PLACE_REFERENCE: return "remaining reference";
+    default: return "unknown place";
     }
 }
 

@@ -8,7 +8,7 @@
 use core::fmt;
 
 /// The edition that this file is for; 0 is the base.
-pub const EDITION: u32 = 1;
+pub const EDITION: u32 = 2;
 /// Words of a table that are in use; a table with fewer is `SY_ERR`.
 pub const WORDS: usize = 736;
 /// Events that a session holds at most.
@@ -95,21 +95,23 @@ pub const WEAR_READING: u32 = 1;
 
 // ---- what crosses the border
 
-/// A refusal that was recorded, and the operation that it was given to.
+/// A refusal that was recorded with its place, and the operation that it was given to.
 #[repr(C)]
 #[derive(Clone, Copy, Debug, Default, PartialEq, Eq)]
 pub struct Event {
     /// The operation's number.
     pub op: u32,
     /// The refusal's number.
-    pub refusal: u32,
+    pub refusal: u8,
+    /// The place's number; 0 to 7 are sound beside any refusal.
+    pub place: u8,
 }
 
 /// A session, as the caller holds it between calls. Every value is taken; one that is not sound is `SY_ERR`.
 #[repr(C)]
 #[derive(Clone, Copy, Debug, Default, PartialEq, Eq)]
 pub struct Session {
-    /// The oldest first; the places after the first `count` are 0.
+    /// The oldest first; after the first `count` all fields are 0.
     pub events: [Event; EVENTS],
     /// How many events there are.
     pub count: u64,
@@ -129,11 +131,14 @@ pub struct Session {
 
 #[repr(C)]
 struct Answer {
-    refusal: u32,
+    refusal: u16,
+    place: u16,
     value: u32,
     session: Session,
 }
 
+const _: () =
+    assert!(core::mem::size_of::<Event>() == 8 && core::mem::offset_of!(Event, place) == 5);
 const _: () = assert!(
     core::mem::size_of::<Session>() == 176 && core::mem::offset_of!(Session, transaction) == 168
 );
@@ -156,7 +161,7 @@ extern "C" {
     ) -> Answer;
 }
 
-// ---- operations and refusals
+// ---- operations, refusals and places
 
 macro_rules! operations {
     ($($(#[$doc:meta])* $case:ident = $number:literal $name:literal,)*) => {
@@ -261,119 +266,168 @@ impl fmt::Display for Operation {
     }
 }
 
-macro_rules! refusals {
-    ($($(#[$doc:meta])* $case:ident = $number:literal,)*) => {
-        /// Why a call was not done, by the standard's names and NO_ROOM. A refused call has changed no word of a table.
-        #[allow(non_camel_case_types)]
+macro_rules! numbers {
+    ($(#[$about:meta])* $kind:ident, $unknown:literal, $($(#[$doc:meta])* $case:ident = $number:literal $name:literal,)*) => {
+        $(#[$about])*
         #[derive(Clone, Copy, Debug, PartialEq, Eq)]
-        pub enum Refusal {
+        pub enum $kind {
             $($(#[$doc])* $case,)*
             /// A number that this edition does not give.
             Unknown(u32),
         }
 
-        impl Refusal {
-            /// The refusal of a number, which is not 0.
-            pub fn of(number: u32) -> Refusal {
+        impl $kind {
+            /// The one of a number.
+            pub fn of(number: u32) -> $kind {
                 match number {
-                    $($number => Refusal::$case,)*
-                    other => Refusal::Unknown(other),
+                    $($number => $kind::$case,)*
+                    other => $kind::Unknown(other),
                 }
             }
 
             /// Its number.
             pub fn number(self) -> u32 {
                 match self {
-                    $(Refusal::$case => $number,)*
-                    Refusal::Unknown(number) => number,
+                    $($kind::$case => $number,)*
+                    $kind::Unknown(number) => number,
                 }
             }
 
-            /// As chip_refusal_name has it.
+            /// As include/chip.h has it.
             pub fn name(self) -> &'static str {
                 match self {
-                    $(Refusal::$case => stringify!($case),)*
-                    Refusal::Unknown(_) => "unknown refusal",
+                    $($kind::$case => $name,)*
+                    $kind::Unknown(_) => $unknown,
                 }
+            }
+        }
+
+        impl fmt::Display for $kind {
+            fn fmt(&self, out: &mut fmt::Formatter<'_>) -> fmt::Result {
+                out.write_str(self.name())
             }
         }
     };
 }
 
-refusals! {
+numbers! {
+    /// Why a call was not done, by the standard's names and NO_ROOM. 0, which is done, is none of them.
+    #[allow(non_camel_case_types)]
+    Refusal, "unknown refusal",
     /// Tables or session are not sound; the session comes back as given.
-    SY_ERR = 1,
+    SY_ERR = 1 "SY_ERR",
     /// No such operation.
-    FN_NAVL = 2,
+    FN_NAVL = 2 "FN_NAVL",
     /// The session is open.
-    SS_OPN = 3,
+    SS_OPN = 3 "SS_OPN",
     /// The session is closed.
-    SS_NOPN = 4,
+    SS_NOPN = 4 "SS_NOPN",
     /// The transaction is aborted.
-    TR_EAB = 5,
+    TR_EAB = 5 "TR_EAB",
     /// There is a transaction.
-    TR_EXS = 6,
+    TR_EXS = 6 "TR_EXS",
     /// There is no transaction to end, commit or abort.
-    TR_NEXS = 7,
+    TR_NEXS = 7 "TR_NEXS",
     /// There is no transaction to work in.
-    TR_NAVL = 8,
+    TR_NAVL = 8 "TR_NAVL",
     /// The transaction is read-only.
-    TR_NRW = 9,
+    TR_NRW = 9 "TR_NRW",
     /// No such repository.
-    RP_NEXS = 10,
+    RP_NEXS = 10 "RP_NEXS",
     /// The repository is open.
-    RP_OPN = 11,
+    RP_OPN = 11 "RP_OPN",
     /// The repository is closed.
-    RP_NOPN = 12,
+    RP_NOPN = 12 "RP_NOPN",
     /// No such model.
-    MO_NEXS = 13,
+    MO_NEXS = 13 "MO_NEXS",
     /// The repository has a model of that name.
-    MO_DUP = 14,
+    MO_DUP = 14 "MO_DUP",
     /// The schemas of model and schema instance differ.
-    MO_NDEQ = 15,
+    MO_NDEQ = 15 "MO_NDEQ",
     /// Remove model: not in the set; put: no set has both models.
-    MO_NVLD = 16,
+    MO_NVLD = 16 "MO_NVLD",
     /// The model has read-only access.
-    MX_RO = 17,
+    MX_RO = 17 "MX_RO",
     /// The model has read-write access.
-    MX_RW = 18,
+    MX_RW = 18 "MX_RW",
     /// The model has no access.
-    MX_NDEF = 19,
-    /// No read-write access, of the model or of one that refers to what would go.
-    MX_NRW = 20,
+    MX_NDEF = 19 "MX_NDEF",
+    /// No read-write access, of the model or of one that refers to what would go: the place tells which.
+    MX_NRW = 20 "MX_NRW",
     /// No such schema.
-    SD_NDEF = 21,
+    SD_NDEF = 21 "SD_NDEF",
     /// No such schema instance.
-    SI_NEXS = 22,
+    SI_NEXS = 22 "SI_NEXS",
     /// The repository has a schema instance of that name.
-    SI_DUP = 23,
+    SI_DUP = 23 "SI_DUP",
     /// No such type.
-    ED_NDEF = 24,
+    ED_NDEF = 24 "ED_NDEF",
     /// The two types are of two schemas.
-    ED_NDEQ = 25,
+    ED_NDEQ = 25 "ED_NDEQ",
     /// The type is of another schema than the model.
-    ED_NVLD = 26,
+    ED_NVLD = 26 "ED_NVLD",
     /// No such instance.
-    EI_NEXS = 27,
+    EI_NEXS = 27 "EI_NEXS",
     /// The type has no such attribute.
-    AT_NDEF = 28,
+    AT_NDEF = 28 "AT_NDEF",
     /// The attribute is not set.
-    VA_NSET = 29,
+    VA_NSET = 29 "VA_NSET",
     /// The value names no instance.
-    VA_NVLD = 30,
+    VA_NVLD = 30 "VA_NVLD",
     /// The value names an instance of a wrong type.
-    VT_NVLD = 31,
+    VT_NVLD = 31 "VT_NVLD",
     /// Every entry is live.
-    NO_ROOM = 32,
+    NO_ROOM = 32 "NO_ROOM",
 }
 
-impl fmt::Display for Refusal {
+numbers! {
+    /// What a refusal is about. A condition on two arguments names the later one; where both types of a subtype test are
+    /// none, the first is named.
+    Place, "unknown place",
+    /// No argument: SY_ERR, FN_NAVL, session and transaction.
+    None = 0 "none",
+    /// The first argument failed its check.
+    A = 1 "argument a",
+    /// The second.
+    B = 2 "argument b",
+    /// The third.
+    C = 3 "argument c",
+    /// NO_ROOM: there is none for a model.
+    Models = 4 "models",
+    /// NO_ROOM: there is none for a schema instance.
+    SchemaInstances = 5 "schema instances",
+    /// NO_ROOM: there is none for an instance.
+    Instances = 6 "instances",
+    /// MX_NRW: an instance that stays refers to what would go.
+    Reference = 7 "remaining reference",
+}
+
+/// Why a call was not done, and what that is about. It has changed no word of a table.
+#[derive(Clone, Copy, Debug, PartialEq, Eq)]
+pub struct Refused {
+    /// Why.
+    pub refusal: Refusal,
+    /// Which argument failed its check, what is full, or that something refers to what would go.
+    pub place: Place,
+}
+
+impl fmt::Display for Refused {
     fn fmt(&self, out: &mut fmt::Formatter<'_>) -> fmt::Result {
-        out.write_str(self.name())
+        match self.place {
+            Place::None => write!(out, "{}", self.refusal),
+            place => write!(out, "{}, {place}", self.refusal),
+        }
     }
 }
 
-impl core::error::Error for Refusal {}
+impl core::error::Error for Refused {}
+
+/// For `?` in a function that gives the refusal alone.
+impl From<Refused> for Refusal {
+    fn from(refused: Refused) -> Refusal {
+        refused.refusal
+    }
+}
 
 // ---- the call
 
@@ -387,7 +441,7 @@ pub fn call(
     session: &mut Session,
     working: &mut [u64],
     kept: &mut [u64],
-) -> Result<u32, Refusal> {
+) -> Result<u32, Refused> {
     let op = op.into();
     // SAFETY: both slices may be read and written for their lengths, are aligned, and are apart, being borrowed mutably.
     let answer = unsafe {
@@ -406,7 +460,10 @@ pub fn call(
     *session = answer.session;
     match answer.refusal {
         0 => Ok(answer.value),
-        refusal => Err(Refusal::of(refusal)),
+        refusal => Err(Refused {
+            refusal: Refusal::of(refusal.into()),
+            place: Place::of(answer.place.into()),
+        }),
     }
 }
 
@@ -424,7 +481,11 @@ pub struct Chip {
 impl Chip {
     /// All zeros.
     pub const fn fresh() -> Chip {
-        let event = Event { op: 0, refusal: 0 };
+        let event = Event {
+            op: 0,
+            refusal: 0,
+            place: 0,
+        };
         let session = Session {
             events: [event; EVENTS],
             count: 0,
@@ -449,7 +510,7 @@ impl Chip {
     }
 
     /// `call` on it.
-    pub fn ask(&mut self, op: impl Into<u32>, a: u32, b: u32, c: u32) -> Result<u32, Refusal> {
+    pub fn ask(&mut self, op: impl Into<u32>, a: u32, b: u32, c: u32) -> Result<u32, Refused> {
         call(
             op,
             a,

@@ -36,7 +36,7 @@ typedef struct chip_state {
 typedef struct vector {
     call asked;
     chip_state before, after;
-    uint32_t refusal, value;
+    uint32_t refusal, value, place;
 } vector;
 
 static uint64_t number_of(const json *value)
@@ -51,27 +51,38 @@ static uint64_t number(const json *object, const char *name)
     return number_of(part_named(object, name));
 }
 
-static uint32_t narrow(uint64_t wide)
+static uint32_t narrow(uint64_t wide, uint32_t most)
 {
-    if (wide > UINT32_MAX)
+    if (wide > most)
         fail("a number is too large for its field");
     return (uint32_t)wide;
 }
 
 static uint32_t small_number(const json *object, const char *name)
 {
-    return narrow(number(object, name));
+    return narrow(number(object, name), UINT32_MAX);
 }
 
-/* The first two numbers of each event count; later editions have more. */
+/* Puts the first three numbers of an array there; later editions have more. */
+static void read_three(const json *array, const char *missing, uint64_t to[3])
+{
+    const json *part = array && array->kind == JSON_ARRAY ? array->first : NULL;
+    for (int n = 0; n < 3; n++, part = part->next) {
+        if (!part)
+            fail(missing);
+        to[n] = number_of(part);
+    }
+}
+
 static void read_events(const json *events, chip_event *to)
 {
     const json *event = events && events->kind == JSON_ARRAY ? events->first : NULL;
     for (int e = 0; e < CHIP_EVENTS; e++, event = event->next) {
-        if (!event || event->kind != JSON_ARRAY || !event->first)
-            fail("an event is missing");
-        to[e].op = narrow(number_of(event->first));
-        to[e].refusal = narrow(number_of(event->first->next));
+        uint64_t numbers[3];
+        read_three(event, "an event is missing", numbers);
+        to[e].op = narrow(numbers[0], UINT32_MAX);
+        to[e].refusal = (uint8_t)narrow(numbers[1], UINT8_MAX);
+        to[e].place = (uint8_t)narrow(numbers[2], UINT8_MAX);
     }
 }
 
@@ -121,7 +132,8 @@ static void read_state(const json *from, chip_state *to)
 
 static void read_vector(const json *from, vector *to)
 {
-    const json *question = part_named(from, "q"), *reply = part_named(from, "r"), *answer = part_named(reply, "answer");
+    const json *question = part_named(from, "q"), *reply = part_named(from, "r");
+    uint64_t answer[3];
     memset(to, 0, sizeof *to);
     to->asked.op = small_number(question, "op");
     to->asked.a = small_number(question, "a");
@@ -129,10 +141,10 @@ static void read_vector(const json *from, vector *to)
     to->asked.c = small_number(question, "c");
     read_state(question, &to->before);
     read_state(reply, &to->after);
-    if (!answer || answer->kind != JSON_ARRAY || !answer->first)
-        fail("an answer is missing");
-    to->refusal = narrow(number_of(answer->first));
-    to->value = narrow(number_of(answer->first->next));
+    read_three(part_named(reply, "answer"), "an answer is missing", answer);
+    to->refusal = narrow(answer[0], UINT32_MAX);
+    to->value = narrow(answer[1], UINT32_MAX);
+    to->place = narrow(answer[2], UINT32_MAX);
 }
 
 /* ---- asking ---- */
@@ -158,17 +170,17 @@ static int is_answered(const vector *v, const char *who, chip_function *function
     uint64_t *kept = put_table(kept_end, &v->before.kept);
     chip_answer answer = function(v->asked.op, v->asked.a, v->asked.b, v->asked.c, v->before.session, working,
                                   v->before.working.length, kept, v->before.kept.length);
-    int numbers = answer.refusal == v->refusal && answer.value == v->value;
+    int numbers = answer.refusal == v->refusal && answer.value == v->value && answer.place == v->place;
     int session = same_session(&answer.session, &v->after.session);
     int tables = same_table(working, &v->after.working) && same_table(kept, &v->after.kept);
     if (numbers && session && tables)
         return 1;
     if (printed++ < MOST_PRINTED)
-        printf("line %lu, %s: op %u (%s), a %u, b %u, c %u: %s %u, expected %s %u%s%s\n", line, who,
+        printf("line %lu, %s: op %u (%s), a %u, b %u, c %u: %s %u, place %u, expected %s %u, place %u%s%s\n", line, who,
                (unsigned)v->asked.op, chip_operation_name(v->asked.op), (unsigned)v->asked.a, (unsigned)v->asked.b,
-               (unsigned)v->asked.c, chip_refusal_name(answer.refusal), (unsigned)answer.value,
-               chip_refusal_name(v->refusal), (unsigned)v->value, session ? "" : "; the session differs",
-               tables ? "" : "; words of the tables differ");
+               (unsigned)v->asked.c, chip_refusal_name(answer.refusal), (unsigned)answer.value, (unsigned)answer.place,
+               chip_refusal_name(v->refusal), (unsigned)v->value, (unsigned)v->place,
+               session ? "" : "; the session differs", tables ? "" : "; words of the tables differ");
     return 0;
 }
 

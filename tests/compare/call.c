@@ -3,7 +3,7 @@
 static int same_events(const chip_event *one, const chip_event *other)
 {
     for (int e = 0; e < CHIP_EVENTS; e++)
-        if (one[e].op != other[e].op || one[e].refusal != other[e].refusal)
+        if (one[e].op != other[e].op || one[e].refusal != other[e].refusal || one[e].place != other[e].place)
             return 0;
     return 1;
 }

@@ -12,7 +12,7 @@ typedef chip_answer chip_function(uint32_t op, uint32_t a, uint32_t b, uint32_t 
                                   uint64_t *working, size_t working_words,
                                   uint64_t *kept, size_t kept_words);
 
-/* In every field; bytes after the last one do not count. */
+/* In every field; the bytes that carry nothing do not count. */
 int same_session(const chip_session *one, const chip_session *other);
 
 #endif

@@ -1,19 +1,21 @@
-/* Compares the library with the model, call by call: compare [calls] [seed] */
+/* Compares the library with the model, call by call: compare [calls] [seed]
+ * compare places: prints which places each refusal of an operation has. */
 #include "arguments.h"
 #include "damage.h"
 #include "difference.h"
 #include "guarded.h"
-#include "pairs.h"
 #include "side.h"
 #include "sights.h"
+#include "triples.h"
 #include "walk.h"
 
 #include "../model/model.h"
 
 #include <stdio.h>
 #include <stdlib.h>
+#include <string.h>
 
-/* From this many calls on, a run must reach every pair, every sight and every kind of damage. */
+/* From this many calls on, a run must reach every triple, every sight and every kind of damage. */
 #define WHOLE_RUN 1000000
 #define MOST_DIFFERENCES 5
 #define CALLS_ON_DAMAGED 3
@@ -30,7 +32,7 @@ typedef struct kind_count {
 
 typedef struct run {
     unsigned long long seed, wanted, calls, damaged, unsound, walks;
-    int differences, strange_pairs;
+    int differences, strange_answers;
     const char *damage; /* done to the state in hand; NULL if none */
     dice dice;
     pair_of_sides walking, probing;
@@ -74,9 +76,10 @@ static chip_answer ask_both(run *r, pair_of_sides *sides, const call *asked)
         fflush(stdout);
         make_equal(sides);
     }
-    if (!pair_reached(asked->op, models.refusal)) {
-        r->strange_pairs++;
-        printf("not a pair of documents 01 and 02: op %u, refusal %u\n", (unsigned)asked->op, (unsigned)models.refusal);
+    if (!triple_reached(asked->op, models.refusal, models.place)) {
+        r->strange_answers++;
+        printf("not an answer of documents 01 and 02: op %u, refusal %u, place %u\n", (unsigned)asked->op,
+               (unsigned)models.refusal, (unsigned)models.place);
     }
     return models;
 }
@@ -190,12 +193,12 @@ static int report(const run *r)
     printf("calls on damaged states: %llu\n", r->damaged);
     printf("answers SY_ERR: %llu\n", r->unsound);
     int whole = r->calls >= WHOLE_RUN;
-    int missing = print_pairs(whole);
+    int missing = print_triples(whole);
     missing += print_sights(whole);
     missing += print_kinds(r, whole);
     int unexpected = print_unexpected(r);
     printf("compare: %d differences\n", r->differences);
-    if (r->differences || r->strange_pairs || unexpected)
+    if (r->differences || r->strange_answers || unexpected)
         return EXIT_FAILURE;
     return whole && missing ? EXIT_FAILURE : EXIT_SUCCESS;
 }
@@ -204,8 +207,12 @@ int main(int count, char **arguments)
 {
     static run r;
     if (count > 3) {
-        fprintf(stderr, "usage: compare [calls] [seed]\n");
+        fprintf(stderr, "usage: compare [calls] [seed], or compare places\n");
         return 2;
+    }
+    if (count == 2 && strcmp(arguments[1], "places") == 0) {
+        print_table();
+        return 0;
     }
     r.wanted = count > 1 ? number_argument("compare", "calls", arguments[1]) : WHOLE_RUN;
     r.seed = count > 2 ? number_argument("compare", "seed", arguments[2]) : 1;

@@ -1,6 +1,6 @@
 #include "damage.h"
 
-#include "places.h"
+#include "spots.h"
 
 #include <string.h>
 
@@ -46,7 +46,8 @@ void fill_events(dice *d, state *s, uint32_t count)
     for (uint32_t e = 0; e < CHIP_EVENTS; e++) {
         chip_event *event = &s->session.events[e];
         event->op = e < count ? edge(d) : 0;
-        event->refusal = e < count ? CHIP_FN_NAVL + below(d, CHIP_NO_ROOM - CHIP_FN_NAVL + 1) : 0;
+        event->refusal = e < count ? (uint8_t)(CHIP_FN_NAVL + below(d, CHIP_NO_ROOM - CHIP_FN_NAVL + 1)) : 0;
+        event->place = e < count ? (uint8_t)below(d, CHIP_PLACE_REFERENCE + 1) : 0;
     }
 }
 

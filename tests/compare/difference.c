@@ -12,7 +12,7 @@ static int same_words(const uint64_t *one, const uint64_t *other, size_t words)
 
 int agree(const side *library, const chip_answer *its, const side *model, const chip_answer *models)
 {
-    return its->refusal == models->refusal && its->value == models->value &&
+    return its->refusal == models->refusal && its->value == models->value && its->place == models->place &&
            same_session(&its->session, &models->session) &&
            same_words(working_of(library), working_of(model), model->working_words) &&
            same_words(kept_of(library), kept_of(model), model->kept_words) && tails_untouched(library) &&
@@ -41,6 +41,8 @@ static void print_sessions(const chip_session *its, const chip_session *models)
         print_field(field, its->events[e].op, models->events[e].op);
         snprintf(field, sizeof field, "session events[%d].refusal", e);
         print_field(field, its->events[e].refusal, models->events[e].refusal);
+        snprintf(field, sizeof field, "session events[%d].place", e);
+        print_field(field, its->events[e].place, models->events[e].place);
     }
 }
 
@@ -70,6 +72,7 @@ void print_difference(const call *asked, const side *library, const chip_answer 
         printf("  refusal: library %u %s, model %u %s\n", (unsigned)its->refusal, chip_refusal_name(its->refusal),
                (unsigned)models->refusal, chip_refusal_name(models->refusal));
     print_field("value", its->value, models->value);
+    print_field("place", its->place, models->place);
     print_sessions(&its->session, &models->session);
     print_tables("working", working_of(library), working_of(model), model->working_words);
     print_tables("kept", kept_of(library), kept_of(model), model->kept_words);

@@ -4,7 +4,7 @@
 
 #include "side.h"
 
-/* Refusal, value, every field of the session and every word of both tables. */
+/* Refusal, value, place, every field of the session and every word of both tables. */
 int agree(const side *library, const chip_answer *its, const side *model, const chip_answer *models);
 
 /* Prints the call and what differs after it. */

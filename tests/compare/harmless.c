@@ -1,7 +1,7 @@
 /* Changes after which the state is still sound, though a test that asks too much would say no. */
 #include "damage.h"
 #include "guarded.h"
-#include "places.h"
+#include "spots.h"
 
 #include <string.h>
 
@@ -15,6 +15,27 @@ static int longer_tables(dice *d, state *s)
 static int any_sound_events(dice *d, state *s)
 {
     fill_events(d, s, below(d, CHIP_EVENTS + 1));
+    return 1;
+}
+
+static void fill_bytes(dice *d, void *at, size_t from, size_t to)
+{
+    unsigned char *bytes = at;
+    for (size_t n = from; n < to; n++)
+        bytes[n] = (unsigned char)roll(d);
+}
+
+/* The bytes that carry nothing, in a session that is open or closed. */
+static int bytes_behind_events(dice *d, state *s)
+{
+    for (uint32_t e = 0; e < CHIP_EVENTS; e++)
+        fill_bytes(d, &s->session.events[e], offsetof(chip_event, place) + 1, sizeof(chip_event));
+    return 1;
+}
+
+static int bytes_behind_session(dice *d, state *s)
+{
+    fill_bytes(d, &s->session, offsetof(chip_session, transaction) + 4, sizeof s->session);
     return 1;
 }
 
@@ -112,6 +133,8 @@ static int assembly_of_itself(dice *d, uint64_t *table, uint64_t access)
 const damage harmless_changes[] = {
     {"words from 736 on", NULL, longer_tables},
     {"any sound events", NULL, any_sound_events},
+    {"anything in the last two bytes of every event", NULL, bytes_behind_events},
+    {"anything in the last four bytes of the session", NULL, bytes_behind_session},
     {"blank kept table under RW", NULL, kept_is_blank},
     {"blank working table under RW", NULL, working_is_blank},
     {"access of a model that is in the working table only", NULL, access_of_new_model},

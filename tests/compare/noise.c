@@ -34,14 +34,16 @@ static int bit_of_session(dice *d, state *s)
 {
     chip_session *session = &s->session;
     chip_event *event = &session->events[below(d, CHIP_EVENTS)];
-    uint32_t *const small[] = {&session->opened, &session->recording, &session->transaction, &event->op,
-                               &event->refusal};
+    uint8_t *const bytes[] = {&event->refusal, &event->place};
+    uint32_t *const small[] = {&session->opened, &session->recording, &session->transaction, &event->op};
     uint64_t *const large[] = {&session->count, &session->repositories, &session->ro, &session->rw};
-    uint32_t field = below(d, 9);
-    if (field < 5)
-        *small[field] ^= (uint32_t)one_bit(d, 0, one_in(d, 2) ? 31 : 4);
+    uint32_t field = below(d, 10);
+    if (field < 2)
+        *bytes[field] ^= (uint8_t)one_bit(d, 0, 7);
+    else if (field < 6)
+        *small[field - 2] ^= (uint32_t)one_bit(d, 0, one_in(d, 2) ? 31 : 4);
     else
-        *large[field - 5] ^= one_bit(d, 0, field < 7 && one_in(d, 2) ? 8 : 63);
+        *large[field - 6] ^= one_bit(d, 0, field < 8 && one_in(d, 2) ? 8 : 63);
     return 1;
 }
 
@@ -69,7 +71,8 @@ static int wild_session(dice *d, state *s)
     s->session.count = roll(d);
     for (uint32_t e = 0; e < CHIP_EVENTS; e++) {
         s->session.events[e].op = (uint32_t)roll(d);
-        s->session.events[e].refusal = (uint32_t)roll(d);
+        s->session.events[e].refusal = (uint8_t)roll(d);
+        s->session.events[e].place = (uint8_t)roll(d);
     }
     return 1;
 }

@@ -1,6 +1,6 @@
 /* Damage to the session. */
 #include "damage.h"
-#include "places.h"
+#include "spots.h"
 
 /* ---- flags, repositories and the transaction ---- */
 
@@ -41,52 +41,77 @@ static int too_many_events(dice *d, state *s)
     return 1;
 }
 
-static int event_of(dice *d, state *s, uint32_t refusal)
+static chip_event *used_event(dice *d, state *s)
 {
     fill_events(d, s, 1 + below(d, CHIP_EVENTS));
-    s->session.events[any_entry(d, s->session.count)].refusal = refusal;
-    return 1;
+    return &s->session.events[any_entry(d, (uint32_t)s->session.count)];
 }
 
 static int event_of_refusal_0(dice *d, state *s)
 {
-    return event_of(d, s, CHIP_DONE);
+    used_event(d, s)->refusal = CHIP_DONE;
+    return 1;
 }
 
 static int event_of_refusal_1(dice *d, state *s)
 {
-    return event_of(d, s, CHIP_SY_ERR);
+    used_event(d, s)->refusal = CHIP_SY_ERR;
+    return 1;
 }
 
 static int event_of_refusal_33(dice *d, state *s)
 {
-    return event_of(d, s, CHIP_NO_ROOM + 1);
+    used_event(d, s)->refusal = CHIP_NO_ROOM + 1;
+    return 1;
 }
 
 static int event_of_large_refusal(dice *d, state *s)
 {
-    return event_of(d, s, CHIP_FN_NAVL | (uint32_t)one_bit(d, 6, 31));
-}
-
-/* ---- the places behind them ---- */
-
-static chip_event *unused_place(dice *d, state *s)
-{
-    fill_events(d, s, below(d, CHIP_EVENTS));
-    return &s->session.events[s->session.count + any_entry(d, CHIP_EVENTS - s->session.count)];
-}
-
-static int operation_in_unused_place(dice *d, state *s)
-{
-    chip_event *event = unused_place(d, s);
-    event->op = (uint32_t)one_bit(d, 0, 31);
+    used_event(d, s)->refusal |= (uint8_t)one_bit(d, 6, 7);
     return 1;
 }
 
-static int refusal_in_unused_place(dice *d, state *s)
+static int event_of_place_8(dice *d, state *s)
 {
-    chip_event *event = unused_place(d, s);
-    event->refusal = CHIP_FN_NAVL + below(d, 31);
+    used_event(d, s)->place = CHIP_PLACE_REFERENCE + 1;
+    return 1;
+}
+
+static int event_of_large_place(dice *d, state *s)
+{
+    used_event(d, s)->place |= (uint8_t)one_bit(d, 3, 7);
+    return 1;
+}
+
+static int event_of_place_255(dice *d, state *s)
+{
+    used_event(d, s)->place = UINT8_MAX;
+    return 1;
+}
+
+/* ---- the blank ones behind them ---- */
+
+static chip_event *blank_event(dice *d, state *s)
+{
+    fill_events(d, s, below(d, CHIP_EVENTS));
+    return &s->session.events[s->session.count + any_entry(d, CHIP_EVENTS - (uint32_t)s->session.count)];
+}
+
+static int operation_in_blank_event(dice *d, state *s)
+{
+    blank_event(d, s)->op = (uint32_t)one_bit(d, 0, 31);
+    return 1;
+}
+
+static int refusal_in_blank_event(dice *d, state *s)
+{
+    blank_event(d, s)->refusal = (uint8_t)one_bit(d, 0, 7);
+    return 1;
+}
+
+static int place_in_blank_event(dice *d, state *s)
+{
+    blank_event(d, s)->place = (uint8_t)one_bit(d, 0, 7);
     return 1;
 }
 
@@ -247,11 +272,17 @@ static int closed_with_events(dice *d, state *s)
     return 1;
 }
 
-static int closed_with_event_place(dice *d, state *s)
+static int closed_with_operation(dice *d, state *s)
 {
     close_up(s);
-    chip_event *event = &s->session.events[any_entry(d, CHIP_EVENTS)];
-    event->op = (uint32_t)one_bit(d, 0, 31);
+    s->session.events[any_entry(d, CHIP_EVENTS)].op = (uint32_t)one_bit(d, 0, 31);
+    return 1;
+}
+
+static int closed_with_place(dice *d, state *s)
+{
+    close_up(s);
+    s->session.events[any_entry(d, CHIP_EVENTS)].place = (uint8_t)one_bit(d, 0, 7);
     return 1;
 }
 
@@ -265,8 +296,12 @@ const damage session_damages[] = {
     {"event of refusal 1", NULL, event_of_refusal_1},
     {"event of refusal 33", NULL, event_of_refusal_33},
     {"event of a large refusal", NULL, event_of_large_refusal},
-    {"operation in an unused event place", NULL, operation_in_unused_place},
-    {"refusal in an unused event place", NULL, refusal_in_unused_place},
+    {"event of place 8", NULL, event_of_place_8},
+    {"event of a large place", NULL, event_of_large_place},
+    {"event of place 255", NULL, event_of_place_255},
+    {"operation in a blank event", NULL, operation_in_blank_event},
+    {"refusal in a blank event", NULL, refusal_in_blank_event},
+    {"place in a blank event", NULL, place_in_blank_event},
     {"RO and RW access of one model", NULL, access_of_both_sorts},
     {"RO access of a free model", NULL, read_only_of_free_model},
     {"RW access of a free model", NULL, read_write_of_free_model},
@@ -284,6 +319,7 @@ const damage session_damages[] = {
     {"closed session with RO access", NULL, closed_with_read_only},
     {"closed session with RW access", NULL, closed_with_read_write},
     {"closed session with events", NULL, closed_with_events},
-    {"closed session with something in an event place", NULL, closed_with_event_place},
+    {"closed session with an operation in an event", NULL, closed_with_operation},
+    {"closed session with a place in an event", NULL, closed_with_place},
     {NULL, NULL, NULL},
 };

@@ -27,15 +27,25 @@ static int refused(const view *v, uint32_t op, uint32_t refusal)
     return v->asked->op == op && v->answer->refusal == refusal;
 }
 
+static int refused_at(const view *v, uint32_t op, uint32_t refusal, uint32_t place)
+{
+    return refused(v, op, refusal) && v->answer->place == place;
+}
+
 static int had_rw(const view *v, uint64_t model)
 {
     return (int)(v->before->rw >> model & 1);
 }
 
+static uint64_t model_of(const view *v, uint32_t instance)
+{
+    return v->working[CHIP_INSTANCE_AT(instance)] >> 8 & 0xff;
+}
+
 /* The model of the instance that a names. */
 static uint64_t its_model(const view *v)
 {
-    return v->working[CHIP_INSTANCE_AT(v->asked->a)] >> 8 & 0xff;
+    return model_of(v, v->asked->a);
 }
 
 static int read_done(const view *v)
@@ -79,35 +89,104 @@ static int emptied_set(const view *v)
     return done(v, CHIP_REMOVE_MODEL) && v->answer->value == 0;
 }
 
+/* Whether the repository of a label is open. */
+static int was_open(const view *v, uint64_t label)
+{
+    return (int)(v->before->repositories >> (label >> 32 & 0xff) & 1);
+}
+
 static int added_model_closed(const view *v)
 {
-    if (!refused(v, CHIP_ADD_MODEL, CHIP_RP_NOPN))
+    return refused_at(v, CHIP_ADD_MODEL, CHIP_RP_NOPN, CHIP_PLACE_B) &&
+           was_open(v, v->working[CHIP_SCHEMA_INSTANCE_AT(v->asked->a)]);
+}
+
+static int both_closed(const view *v)
+{
+    return refused_at(v, CHIP_ADD_MODEL, CHIP_RP_NOPN, CHIP_PLACE_A) && v->asked->b < CHIP_MODELS &&
+           v->working[v->asked->b] && !was_open(v, v->working[v->asked->b]);
+}
+
+/* The instance that instance i refers to; CHIP_INSTANCES if it refers to none. */
+static uint32_t target_of(const view *v, uint32_t i)
+{
+    const uint64_t *instance = v->working + CHIP_INSTANCE_AT(i);
+    uint32_t reference = instance[0] ? dictionary[(instance[0] & 0xff) - 1].reference : NO_REFERENCE;
+    return instance[0] >> (16 + reference) & 1 ? (uint32_t)instance[1 + reference] : CHIP_INSTANCES;
+}
+
+/* Whether instance i stays, has a model without RW access and refers to what the deletion of a would take. */
+static int holds_back(const view *v, uint32_t i)
+{
+    uint32_t target = target_of(v, i);
+    if (target == CHIP_INSTANCES || had_rw(v, model_of(v, i)))
         return 0;
-    uint64_t schema_instance = v->working[CHIP_SCHEMA_INSTANCE_AT(v->asked->a)];
-    return (int)(v->before->repositories >> (schema_instance >> 32 & 0xff) & 1);
+    if (v->asked->op == CHIP_DELETE_INSTANCE)
+        return target == v->asked->a && i != v->asked->a;
+    return model_of(v, target) == v->asked->a && model_of(v, i) != v->asked->a;
+}
+
+static int is_held_back(const view *v)
+{
+    for (uint32_t i = 0; i < CHIP_INSTANCES; i++)
+        if (holds_back(v, i))
+            return 1;
+    return 0;
 }
 
 static int instance_held_back(const view *v)
 {
-    return refused(v, CHIP_DELETE_INSTANCE, CHIP_MX_NRW) && had_rw(v, its_model(v));
+    return refused_at(v, CHIP_DELETE_INSTANCE, CHIP_MX_NRW, CHIP_PLACE_REFERENCE) && had_rw(v, its_model(v)) &&
+           is_held_back(v);
 }
 
 static int last_holds_back(const view *v)
 {
-    const uint64_t *last = v->working + CHIP_INSTANCE_AT(CHIP_INSTANCES - 1);
-    uint32_t reference = last[0] ? dictionary[(last[0] & 0xff) - 1].reference : NO_REFERENCE;
-    return instance_held_back(v) && last[0] >> (16 + reference) & 1 && last[1 + reference] == v->asked->a &&
-           !had_rw(v, last[0] >> 8 & 0xff);
+    return instance_held_back(v) && holds_back(v, CHIP_INSTANCES - 1);
 }
 
 static int model_held_back(const view *v)
 {
-    return refused(v, CHIP_DELETE_MODEL, CHIP_MX_NRW) && had_rw(v, v->asked->a);
+    return refused_at(v, CHIP_DELETE_MODEL, CHIP_MX_NRW, CHIP_PLACE_REFERENCE) && had_rw(v, v->asked->a) &&
+           is_held_back(v);
+}
+
+/* Refused for two reasons, of which the first counts. */
+static int instance_without_rw_held_back(const view *v)
+{
+    return refused_at(v, CHIP_DELETE_INSTANCE, CHIP_MX_NRW, CHIP_PLACE_A) && is_held_back(v);
+}
+
+static int model_without_rw_held_back(const view *v)
+{
+    return refused_at(v, CHIP_DELETE_MODEL, CHIP_MX_NRW, CHIP_PLACE_A) && is_held_back(v);
+}
+
+static int two_types_that_are_none(const view *v)
+{
+    return refused_at(v, CHIP_SUBTYPE_TEST, CHIP_ED_NDEF, CHIP_PLACE_A) && v->asked->b >= CHIP_TYPES;
+}
+
+/* The event that this call added is the last. */
+static int place_recorded(const view *v)
+{
+    const chip_session *after = &v->answer->session;
+    return v->answer->place != CHIP_PLACE_NONE && v->before->recording &&
+           after->events[after->count - 1].op == v->asked->op &&
+           after->events[after->count - 1].refusal == v->answer->refusal &&
+           after->events[after->count - 1].place == v->answer->place;
 }
 
 static int event_dropped(const view *v)
 {
     return v->answer->refusal > CHIP_SY_ERR && v->before->recording && v->before->count == CHIP_EVENTS;
+}
+
+/* The one that is the oldest then had a place, and has it still. */
+static int place_kept(const view *v)
+{
+    return event_dropped(v) && v->before->events[1].place != CHIP_PLACE_NONE &&
+           v->answer->session.events[0].place == v->before->events[1].place;
 }
 
 static int refused_unrecorded(const view *v)
@@ -233,11 +312,17 @@ static const sight sights[] = {
     {"instance 127 is made", last_instance},
     {"a set of 64 models", full_set},
     {"a set loses its last model", emptied_set},
-    {"add model: its repository is closed, the schema instance's is open", added_model_closed},
-    {"a referrer without RW access holds back an instance", instance_held_back},
+    {"add model: its repository is closed, the schema instance's is open; place 2", added_model_closed},
+    {"add model: both repositories are closed; place 1", both_closed},
+    {"a referrer without RW access holds back an instance; place 7", instance_held_back},
     {"instance 127 is such a referrer", last_holds_back},
-    {"a referrer without RW access holds back a model", model_held_back},
+    {"a referrer without RW access holds back a model; place 7", model_held_back},
+    {"an instance that is held back, its model without RW access; place 1", instance_without_rw_held_back},
+    {"a model that is held back, without RW access; place 1", model_without_rw_held_back},
+    {"subtype test of two types that are none; place 1", two_types_that_are_none},
+    {"a place is recorded", place_recorded},
     {"the oldest of sixteen events drops out", event_dropped},
+    {"the oldest drops out, and the next keeps its place", place_kept},
     {"a refusal while recording is off", refused_unrecorded},
     {"session closed in RW", closed_in_rw},
     {"session closed in RO", closed_in_ro},

@@ -1,4 +1,4 @@
-/* Places that a walk is to see and that no pair of operation and answer tells of. */
+/* What a walk is to see and what no triple of operation, refusal and place tells of. */
 #ifndef SIGHTS_H
 #define SIGHTS_H
 

@@ -1,6 +1,6 @@
 /* Damage to the tables: their length, each kind of entry, and that they agree. */
 #include "damage.h"
-#include "places.h"
+#include "spots.h"
 
 #include <string.h>
 

@@ -6,19 +6,19 @@
 #define ALL UINT64_MAX
 
 /* Where a walk is. */
-typedef struct place {
+typedef struct position {
     dice *dice;
     const walk *walk;
     const chip_session *session;
     const uint64_t *working;
-} place;
+} position;
 
 /* ---- numbers ---- */
 
-typedef int choice(const place *at, uint32_t number, uint64_t by);
+typedef int choice(const position *at, uint32_t number, uint64_t by);
 
 /* The first number that suits at or after a random one, going round; the random one if none does. */
-static uint32_t going_round(const place *at, uint32_t count, choice *suits, uint64_t by)
+static uint32_t going_round(const position *at, uint32_t count, choice *suits, uint64_t by)
 {
     uint32_t start = one_in(at->dice, 2) ? any_entry(at->dice, count) : below(at->dice, count);
     for (uint32_t n = 0; n < count; n++)
@@ -28,70 +28,70 @@ static uint32_t going_round(const place *at, uint32_t count, choice *suits, uint
 }
 
 /* Mostly `usual`, at times any entry or an edge. */
-static uint32_t mostly(const place *at, uint32_t usual, uint32_t count)
+static uint32_t mostly(const position *at, uint32_t usual, uint32_t count)
 {
     uint32_t chance = below(at->dice, 100);
     return chance < 3 ? edge(at->dice) : chance < 8 ? below(at->dice, count) : usual;
 }
 
-static uint32_t any_repository(const place *at)
+static uint32_t any_repository(const position *at)
 {
     return mostly(at, below(at->dice, CHIP_REPOSITORIES), CHIP_REPOSITORIES);
 }
 
-static uint64_t instance_header(const place *at, uint32_t number)
+static uint64_t instance_header(const position *at, uint32_t number)
 {
     return at->working[CHIP_INSTANCE_AT(number)];
 }
 
-static const entity_type *type_of_instance(const place *at, uint32_t number)
+static const entity_type *type_of_instance(const position *at, uint32_t number)
 {
     return &dictionary[(instance_header(at, number) & 0xff) - 1];
 }
 
-static int is_live_model(const place *at, uint32_t number, uint64_t wanted)
+static int is_live_model(const position *at, uint32_t number, uint64_t wanted)
 {
     return at->working[number] != 0 && wanted >> number & 1;
 }
 
-static int is_live_schema_instance(const place *at, uint32_t number, uint64_t unused)
+static int is_live_schema_instance(const position *at, uint32_t number, uint64_t unused)
 {
     (void)unused;
     return at->working[CHIP_SCHEMA_INSTANCE_AT(number)] != 0;
 }
 
-static int is_instance_in(const place *at, uint32_t number, uint64_t models)
+static int is_instance_in(const position *at, uint32_t number, uint64_t models)
 {
     uint64_t header = instance_header(at, number);
     return header != 0 && models >> (header >> 8 & 0xff) & 1;
 }
 
 /* The number that a live instance refers to; meaningless if its reference is not set. */
-static uint32_t target_of(const place *at, uint32_t number)
+static uint32_t target_of(const position *at, uint32_t number)
 {
     return (uint32_t)at->working[CHIP_INSTANCE_AT(number) + 1 + type_of_instance(at, number)->reference];
 }
 
 /* Refers out of a model that is not in `rw` into one that is. */
-static int holds_back(const place *at, uint32_t number, uint64_t rw)
+static int holds_back(const position *at, uint32_t number, uint64_t rw)
 {
     return is_instance_in(at, number, ~rw) &&
            instance_header(at, number) >> (16 + type_of_instance(at, number)->reference) & 1 &&
            is_instance_in(at, target_of(at, number), rw);
 }
 
-static int is_target_of(const place *at, uint32_t number, uint64_t referrer)
+static int is_target_of(const position *at, uint32_t number, uint64_t referrer)
 {
     uint32_t wanted = type_of_instance(at, (uint32_t)referrer)->target;
     return instance_header(at, number) != 0 && type_of_instance(at, number)->above >> wanted & 1;
 }
 
-static uint64_t model_bit_of(const place *at, uint32_t number)
+static uint64_t model_bit_of(const position *at, uint32_t number)
 {
     return (uint64_t)1 << (instance_header(at, number) >> 8 & 0xff);
 }
 
-static int is_target_within_reach(const place *at, uint32_t number, uint64_t referrer)
+static int is_target_within_reach(const position *at, uint32_t number, uint64_t referrer)
 {
     if (!is_target_of(at, number, referrer))
         return 0;
@@ -103,7 +103,7 @@ static int is_target_within_reach(const place *at, uint32_t number, uint64_t ref
 }
 
 /* Out of `wanted`, but at times out of all. */
-static uint32_t some_model(const place *at, uint64_t wanted)
+static uint32_t some_model(const position *at, uint64_t wanted)
 {
     if (one_in(at->dice, 8))
         wanted = ALL;
@@ -111,7 +111,7 @@ static uint32_t some_model(const place *at, uint64_t wanted)
 }
 
 /* Of a model out of `wanted`, but at times of any. */
-static uint32_t some_instance(const place *at, uint64_t wanted)
+static uint32_t some_instance(const position *at, uint64_t wanted)
 {
     if (one_in(at->dice, 8))
         wanted = ALL;
@@ -119,7 +119,7 @@ static uint32_t some_instance(const place *at, uint64_t wanted)
 }
 
 /* Instance 127 if it is one, or any. */
-static uint32_t some_that_holds_back(const place *at)
+static uint32_t some_that_holds_back(const position *at)
 {
     const uint32_t last = CHIP_INSTANCES - 1;
     if (holds_back(at, last, at->session->rw) && one_in(at->dice, 2))
@@ -128,7 +128,7 @@ static uint32_t some_that_holds_back(const place *at)
 }
 
 /* At times one that is held back. */
-static uint32_t instance_to_delete(const place *at)
+static uint32_t instance_to_delete(const position *at)
 {
     uint64_t rw = at->session->rw;
     uint32_t referrer = some_that_holds_back(at);
@@ -138,7 +138,7 @@ static uint32_t instance_to_delete(const place *at)
 }
 
 /* At times one with an instance that is held back. */
-static uint32_t model_to_delete(const place *at)
+static uint32_t model_to_delete(const position *at)
 {
     uint64_t rw = at->session->rw;
     uint32_t referrer = some_that_holds_back(at);
@@ -147,7 +147,7 @@ static uint32_t model_to_delete(const place *at)
     return (uint32_t)(instance_header(at, target_of(at, referrer)) >> 8 & 0xff);
 }
 
-static uint32_t some_schema_instance(const place *at)
+static uint32_t some_schema_instance(const position *at)
 {
     uint32_t usual = at->walk->favourite;
     if (at->walk->phase != GATHER || one_in(at->dice, 8))
@@ -155,32 +155,32 @@ static uint32_t some_schema_instance(const place *at)
     return mostly(at, usual, CHIP_SCHEMA_INSTANCES);
 }
 
-static uint32_t some_schema(const place *at)
+static uint32_t some_schema(const position *at)
 {
     if (one_in(at->dice, 40))
         return edge(at->dice);
     return at->walk->schema ? at->walk->schema : 1 + below(at->dice, 2);
 }
 
-static uint32_t some_name(const place *at)
+static uint32_t some_name(const position *at)
 {
     return one_in(at->dice, 10) ? edge(at->dice) : below(at->dice, at->walk->names);
 }
 
-static uint32_t type_for(const place *at, uint32_t model)
+static uint32_t type_for(const position *at, uint32_t model)
 {
     if (one_in(at->dice, 12))
         return one_in(at->dice, 3) ? edge(at->dice) : below(at->dice, CHIP_TYPES + 2);
     return model < CHIP_MODELS && at->working[model] >> 40 == 2 ? 8 + below(at->dice, 2) : below(at->dice, 8);
 }
 
-static uint32_t some_type(const place *at)
+static uint32_t some_type(const position *at)
 {
     return mostly(at, below(at->dice, CHIP_TYPES), CHIP_TYPES + 2);
 }
 
 /* One that the instance has, its reference more often than the others. */
-static uint32_t attribute_of(const place *at, uint32_t number)
+static uint32_t attribute_of(const position *at, uint32_t number)
 {
     uint32_t usual = below(at->dice, CHIP_ATTRIBUTES);
     if (number < CHIP_INSTANCES && instance_header(at, number) != 0) {
@@ -191,7 +191,7 @@ static uint32_t attribute_of(const place *at, uint32_t number)
 }
 
 /* For a reference mostly one that can be put, for a number anything. */
-static uint32_t value_for(const place *at, uint32_t number, uint32_t attribute)
+static uint32_t value_for(const position *at, uint32_t number, uint32_t attribute)
 {
     if (number < CHIP_INSTANCES && instance_header(at, number) != 0 &&
         type_of_instance(at, number)->reference == attribute && !one_in(at->dice, 6))
@@ -204,7 +204,7 @@ static uint32_t value_for(const place *at, uint32_t number, uint32_t attribute)
     }
 }
 
-static uint32_t anything(const place *at)
+static uint32_t anything(const position *at)
 {
     return one_in(at->dice, 2) ? edge(at->dice) : (uint32_t)roll(at->dice);
 }
@@ -256,7 +256,7 @@ static uint32_t drawn(dice *d, const uint8_t *weight)
 static const uint8_t eagerness[PHASES] = {[FILL] = 80, [GATHER] = 80, [MIX] = 50, [DRAIN] = 50, [LOOSE] = 15};
 
 /* The operation that most others wait for; 0 if they wait for none. */
-static uint32_t awaited(const place *at)
+static uint32_t awaited(const position *at)
 {
     const chip_session *session = at->session;
     if (!session->opened)
@@ -272,13 +272,13 @@ static uint32_t awaited(const place *at)
     return session->rw ? 0 : CHIP_RW_ACCESS;
 }
 
-static uint64_t set_of(const place *at, uint32_t schema_instance)
+static uint64_t set_of(const position *at, uint32_t schema_instance)
 {
     return schema_instance < CHIP_SCHEMA_INSTANCES ? at->working[CHIP_SCHEMA_INSTANCE_AT(schema_instance) + 1] : 0;
 }
 
 /* Arguments that the operation does not name are anything. */
-static call with_arguments(const place *at, uint32_t op)
+static call with_arguments(const position *at, uint32_t op)
 {
     const chip_session *session = at->session;
     uint64_t access = session->ro | session->rw;
@@ -341,7 +341,7 @@ static call with_arguments(const place *at, uint32_t op)
         break;
     case CHIP_SUBTYPE_TEST:
         next.a = some_type(at);
-        next.b = some_type(at);
+        next.b = one_in(at->dice, 8) ? next.a : some_type(at);
         break;
     default:
         break;
@@ -383,7 +383,7 @@ call walk_next(walk *w, const chip_session *session, const uint64_t *working)
 {
     if (w->left-- == 0)
         next_phase(w);
-    place at = {w->dice, w, session, working};
+    position at = {w->dice, w, session, working};
     uint32_t op = percent(w->dice, eagerness[w->phase]) ? awaited(&at) : 0;
     if (op == 0)
         op = drawn(w->dice, weights[w->phase]);
@@ -394,6 +394,6 @@ call walk_next(walk *w, const chip_session *session, const uint64_t *working)
 
 call walk_aside(walk *w, const chip_session *session, const uint64_t *working)
 {
-    place at = {w->dice, w, session, working};
+    position at = {w->dice, w, session, working};
     return with_arguments(&at, drawn(w->dice, weights[LOOSE]));
 }

@@ -1,22 +1,26 @@
 //! The walk of example.c in Rust: a plate is made, read back and kept; then power is lost, and it is read from what was kept
-//! and made thinner.
-use chip::{Chip, Operation, Refusal};
+//! and made thinner. One question is wrong, and the answer says which argument is to blame.
+use chip::{Chip, Operation, Refused};
 use std::process::ExitCode;
 
 struct Walk {
     on: Chip,
-    refused: bool,
+    refused: u32,
 }
 
 impl Walk {
     fn ask(&mut self, op: Operation, a: u32, b: u32, c: u32) -> u32 {
-        let answer: Result<u32, Refusal> = self.on.ask(op, a, b, c);
-        match answer {
-            Ok(value) => println!("{op}: done, value {value}"),
-            Err(refusal) => println!("{op}: {refusal}, value 0"),
+        match self.on.ask(op, a, b, c) {
+            Ok(value) => {
+                println!("{op}: done, value {value}");
+                value
+            }
+            Err(Refused { refusal, place }) => {
+                println!("{op}: {refusal}, place: {place}");
+                self.refused += 1;
+                0
+            }
         }
-        self.refused |= answer.is_err();
-        answer.unwrap_or(0)
     }
 
     fn make_plate(&mut self, repository: u32, schema: u32, name: u32) {
@@ -31,13 +35,15 @@ impl Walk {
         self.ask(Operation::EndCommit, 0, 0, 0);
     }
 
-    /// The get gives the model read-only access, the promotion makes it read-write.
+    /// The get gives the model read-only access, the promotion makes it read-write. A plate has no attribute after its
+    /// thickness.
     fn grind_plate(&mut self, repository: u32, model: u32, plate: u32) {
         self.ask(Operation::OpenSession, 0, 0, 0);
         self.ask(Operation::OpenRepository, repository, 0, 0);
         self.ask(Operation::StartRw, 0, 0, 0);
         self.ask(Operation::Get, plate, chip::PLATE_THICKNESS, 0);
         self.ask(Operation::Promote, model, 0, 0);
+        self.ask(Operation::Put, plate, chip::PLATE_THICKNESS + 1, 24);
         self.ask(Operation::Put, plate, chip::PLATE_THICKNESS, 24);
         self.ask(Operation::Get, plate, chip::PLATE_THICKNESS, 0);
         self.ask(Operation::EndCommit, 0, 0, 0);
@@ -48,10 +54,10 @@ impl Walk {
 fn main() -> ExitCode {
     let mut walk = Walk {
         on: Chip::fresh(),
-        refused: false,
+        refused: 0,
     };
     walk.make_plate(0, 1, 7);
     walk.on.restart();
     walk.grind_plate(0, 0, 0);
-    ExitCode::from(u8::from(walk.refused))
+    ExitCode::from(u8::from(walk.refused != 1))
 }

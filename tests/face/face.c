@@ -30,6 +30,17 @@ static void refusals_have_names(void)
     expect(strcmp(chip_refusal_name(UINT32_MAX), "unknown refusal") == 0, "2^32 - 1 is no refusal");
 }
 
+static void places_have_names(void)
+{
+    static const char *const names[] = {"none", "argument a", "argument b", "argument c", "models", "schema instances",
+                                        "instances", "remaining reference"};
+    uint32_t place;
+    for (place = CHIP_PLACE_NONE; place <= CHIP_PLACE_REFERENCE; place++)
+        expect(strcmp(chip_place_name(place), names[place]) == 0, "the names of the places");
+    expect(strcmp(chip_place_name(CHIP_PLACE_REFERENCE + 1), "unknown place") == 0, "8 is no place");
+    expect(strcmp(chip_place_name(UINT32_MAX), "unknown place") == 0, "2^32 - 1 is no place");
+}
+
 /* An operation has a name exactly if the library lists its number. */
 static void listed_operations_have_names(void)
 {
@@ -73,6 +84,21 @@ static void chips_begin_and_begin_again(void)
     expect(chip_do(&on, CHIP_OPEN_SESSION, 0, 0, 0).refusal == CHIP_DONE, "after a restart the chip is sound");
 }
 
+/* An answer's place comes with the result, and stands in the event. */
+static void places_are_told(void)
+{
+    static chip on;
+    chip_result result;
+    chip_fresh(&on);
+    result = chip_do(&on, CHIP_OPEN_SESSION, 0, 0, 0);
+    expect(result.refusal == CHIP_DONE && result.place == CHIP_PLACE_NONE, "done has no place");
+    result = chip_do(&on, CHIP_SUBTYPE_TEST, 0, CHIP_TYPES, 0);
+    expect(result.refusal == CHIP_ED_NDEF && result.place == CHIP_PLACE_B, "the second type is none");
+    expect(on.session.count == 1 && on.session.events[0].op == CHIP_SUBTYPE_TEST &&
+               on.session.events[0].refusal == CHIP_ED_NDEF && on.session.events[0].place == CHIP_PLACE_B,
+           "the event has refusal and place");
+}
+
 /* ---- tables ---- */
 
 static uint32_t opened_with(uint64_t *working, size_t working_words, uint64_t *kept, size_t kept_words)
@@ -96,8 +122,10 @@ static void short_tables_are_refused(void)
 int main(void)
 {
     refusals_have_names();
+    places_have_names();
     listed_operations_have_names();
     chips_begin_and_begin_again();
+    places_are_told();
     short_tables_are_refused();
     printf("face: %d failures\n", failures);
     return failures != 0;

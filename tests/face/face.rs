@@ -1,5 +1,5 @@
 //! What rust/chip.rs adds to the call: the same names and numbers as include/chip.h, and slices of any length.
-use chip::{call, Chip, Operation, Refusal, Session};
+use chip::{call, Chip, Event, Operation, Place, Refusal, Refused, Session};
 
 const REFUSALS: &str = "SY_ERR FN_NAVL SS_OPN SS_NOPN TR_EAB TR_EXS TR_NEXS TR_NAVL TR_NRW RP_NEXS RP_OPN RP_NOPN MO_NEXS MO_DUP \
      MO_NDEQ MO_NVLD MX_RO MX_RW MX_NDEF MX_NRW SD_NDEF SI_NEXS SI_DUP ED_NDEF ED_NDEQ ED_NVLD EI_NEXS AT_NDEF VA_NSET \
@@ -15,10 +15,62 @@ fn refusals_have_names() {
     assert_eq!(Refusal::of(33).to_string(), "unknown refusal");
 }
 
+const PLACES: [&str; 8] = [
+    "none",
+    "argument a",
+    "argument b",
+    "argument c",
+    "models",
+    "schema instances",
+    "instances",
+    "remaining reference",
+];
+
+fn places_have_names() {
+    for (name, number) in PLACES.iter().zip(0..) {
+        assert_eq!(Place::of(number).number(), number);
+        assert_eq!(Place::of(number).name(), *name);
+    }
+    assert_eq!(Place::of(7), Place::Reference);
+    assert_eq!(Place::of(8), Place::Unknown(8));
+    assert_eq!(Place::of(8).to_string(), "unknown place");
+}
+
+/// A refusal that is about no argument.
+fn by_itself(refusal: Refusal) -> Result<u32, Refused> {
+    Err(Refused {
+        refusal,
+        place: Place::None,
+    })
+}
+
+/// An answer's place comes with the refusal, and stands in the event.
+fn places_are_told() {
+    let mut on = Chip::fresh();
+    assert_eq!(on.ask(Operation::OpenSession, 0, 0, 0), Ok(0));
+    let refused = on.ask(Operation::SubtypeTest, 0, 10, 0).unwrap_err();
+    assert_eq!(
+        (refused.refusal, refused.place),
+        (Refusal::ED_NDEF, Place::B)
+    );
+    assert_eq!(refused.to_string(), "ED_NDEF, argument b");
+    assert_eq!(Refusal::from(refused), Refusal::ED_NDEF);
+    let event = Event {
+        op: 46,
+        refusal: 24,
+        place: 2,
+    };
+    assert_eq!((on.session.count, on.session.events[0]), (1, event));
+    assert_eq!(
+        on.ask(Operation::Commit, 0, 0, 0).unwrap_err().to_string(),
+        "TR_NEXS"
+    );
+}
+
 /// An operation has a name exactly if the library lists its number.
 fn listed_operations_have_names() {
     for op in 0..70_000 {
-        let unlisted = Chip::fresh().ask(op, 0, 0, 0) == Err(Refusal::FN_NAVL);
+        let unlisted = Chip::fresh().ask(op, 0, 0, 0) == by_itself(Refusal::FN_NAVL);
         assert_eq!(Operation::of(op).is_none(), unlisted);
         assert!(Operation::of(op)
             .is_none_or(|listed| u32::from(listed) == op && !listed.to_string().is_empty()));
@@ -38,7 +90,7 @@ fn short_tables_are_refused() {
             &mut [],
             &mut []
         ),
-        Err(Refusal::SY_ERR)
+        by_itself(Refusal::SY_ERR)
     );
     assert_eq!(
         call(
@@ -50,7 +102,7 @@ fn short_tables_are_refused() {
             &mut working[..735],
             &mut kept
         ),
-        Err(Refusal::SY_ERR)
+        by_itself(Refusal::SY_ERR)
     );
     assert_eq!(session, Session::default());
     assert_eq!(
@@ -70,6 +122,8 @@ fn short_tables_are_refused() {
 
 fn main() {
     refusals_have_names();
+    places_have_names();
+    places_are_told();
     listed_operations_have_names();
     short_tables_are_refused();
     println!("face in Rust: as in C");

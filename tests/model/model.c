@@ -160,15 +160,16 @@ static int table_sound(const uint64_t *table)
     return 1;
 }
 
-/* The log: as many events as are counted, each with a refusal that is recorded, and blank places behind. */
+/* The log: as many events as are counted, each with a refusal that is recorded and any place, and blank ones behind. */
 static int events_sound(const chip_session *session)
 {
     if (session->count > CHIP_EVENTS)
         return 0;
     for (uint32_t e = 0; e < CHIP_EVENTS; e++) {
         const chip_event *event = &session->events[e];
-        if (e < session->count ? event->refusal < CHIP_FN_NAVL || event->refusal > CHIP_NO_ROOM
-                               : (event->op | event->refusal) != 0)
+        if (e < session->count ? event->refusal < CHIP_FN_NAVL || event->refusal > CHIP_NO_ROOM ||
+                                     event->place > CHIP_PLACE_REFERENCE
+                               : (event->op | event->refusal | event->place) != 0)
             return 0;
     }
     return 1;
@@ -214,6 +215,14 @@ static int sound(const chip_session *session, const uint64_t *working, size_t wo
 /* ---- Operations ----
  *
  * Each returns its refusal, all of which come before the first change. */
+
+/* A refusal and its place, in a byte each; a refusal by itself has place 0, and 0 is done. */
+typedef uint32_t outcome;
+
+static outcome refuse(uint32_t refusal, uint32_t place)
+{
+    return refusal | place << 8;
+}
 
 typedef struct machine {
     chip_session *session;
@@ -271,32 +280,32 @@ static void leave_transaction(machine *on, uint32_t state)
     on->session->transaction = state;
 }
 
-static uint32_t open_session(machine *on)
+static outcome open_session(machine *on)
 {
     on->session->opened = 1;
     on->session->recording = 1;
     return CHIP_DONE;
 }
 
-static uint32_t close_session(machine *on)
+static outcome close_session(machine *on)
 {
     take_back_changes(on);
     *on->session = (chip_session){0};
     return CHIP_DONE;
 }
 
-static uint32_t open_repository(machine *on, uint32_t repository)
+static outcome open_repository(machine *on, uint32_t repository)
 {
     if (repository >= CHIP_REPOSITORIES)
-        return CHIP_RP_NEXS;
+        return refuse(CHIP_RP_NEXS, CHIP_PLACE_A);
     if (is_open(on, repository))
-        return CHIP_RP_OPN;
+        return refuse(CHIP_RP_OPN, CHIP_PLACE_A);
     on->session->repositories |= only(repository);
     return CHIP_DONE;
 }
 
 /* TR_EAB TR_EXS, of 4, 5 and 6. */
-static uint32_t refusal_in_transaction(const machine *on)
+static outcome refusal_in_transaction(const machine *on)
 {
     switch (on->session->transaction) {
     case CHIP_NONE: return CHIP_DONE;
@@ -306,7 +315,7 @@ static uint32_t refusal_in_transaction(const machine *on)
 }
 
 /* TR_EAB and the one for none, of 7, 8, 9 and 13. */
-static uint32_t refusal_out_of_transaction(const machine *on, uint32_t none)
+static outcome refusal_out_of_transaction(const machine *on, outcome none)
 {
     switch (on->session->transaction) {
     case CHIP_NONE: return none;
@@ -315,31 +324,31 @@ static uint32_t refusal_out_of_transaction(const machine *on, uint32_t none)
     }
 }
 
-static uint32_t close_repository(machine *on, uint32_t repository)
+static outcome close_repository(machine *on, uint32_t repository)
 {
-    uint32_t refusal = refusal_in_transaction(on);
+    outcome refusal = refusal_in_transaction(on);
     if (refusal)
         return refusal;
     if (repository >= CHIP_REPOSITORIES)
-        return CHIP_RP_NEXS;
+        return refuse(CHIP_RP_NEXS, CHIP_PLACE_A);
     if (!is_open(on, repository))
-        return CHIP_RP_NOPN;
+        return refuse(CHIP_RP_NOPN, CHIP_PLACE_A);
     on->session->repositories &= ~only(repository);
     return CHIP_DONE;
 }
 
-static uint32_t start_transaction(machine *on, uint32_t mode)
+static outcome start_transaction(machine *on, uint32_t mode)
 {
-    uint32_t refusal = refusal_in_transaction(on);
+    outcome refusal = refusal_in_transaction(on);
     if (refusal)
         return refusal;
     on->session->transaction = mode;
     return CHIP_DONE;
 }
 
-static uint32_t commit(machine *on)
+static outcome commit(machine *on)
 {
-    uint32_t refusal = refusal_out_of_transaction(on, CHIP_TR_NEXS);
+    outcome refusal = refusal_out_of_transaction(on, CHIP_TR_NEXS);
     if (refusal)
         return refusal;
     if (on->session->transaction == CHIP_RO)
@@ -348,9 +357,9 @@ static uint32_t commit(machine *on)
     return CHIP_DONE;
 }
 
-static uint32_t abort_changes(machine *on)
+static outcome abort_changes(machine *on)
 {
-    uint32_t refusal = refusal_out_of_transaction(on, CHIP_TR_NEXS);
+    outcome refusal = refusal_out_of_transaction(on, CHIP_TR_NEXS);
     if (refusal)
         return refusal;
     if (on->session->transaction == CHIP_RO)
@@ -360,9 +369,9 @@ static uint32_t abort_changes(machine *on)
     return CHIP_DONE;
 }
 
-static uint32_t end_transaction_commit(machine *on)
+static outcome end_transaction_commit(machine *on)
 {
-    uint32_t refusal = refusal_out_of_transaction(on, CHIP_TR_NEXS);
+    outcome refusal = refusal_out_of_transaction(on, CHIP_TR_NEXS);
     if (refusal)
         return refusal;
     keep_changes(on);
@@ -370,7 +379,7 @@ static uint32_t end_transaction_commit(machine *on)
     return CHIP_DONE;
 }
 
-static uint32_t end_transaction_abort(machine *on)
+static outcome end_transaction_abort(machine *on)
 {
     if (on->session->transaction == CHIP_NONE)
         return CHIP_TR_NEXS;
@@ -379,23 +388,23 @@ static uint32_t end_transaction_abort(machine *on)
     return CHIP_DONE;
 }
 
-static uint32_t start_recording(machine *on)
+static outcome start_recording(machine *on)
 {
     on->session->recording = 1;
     on->value = 1;
     return CHIP_DONE;
 }
 
-static uint32_t stop_recording(machine *on)
+static outcome stop_recording(machine *on)
 {
     on->value = on->session->recording;
     on->session->recording = 0;
     return CHIP_DONE;
 }
 
-static uint32_t storage_fault(machine *on)
+static outcome storage_fault(machine *on)
 {
-    uint32_t refusal = refusal_out_of_transaction(on, CHIP_TR_NAVL);
+    outcome refusal = refusal_out_of_transaction(on, CHIP_TR_NAVL);
     if (refusal)
         return refusal;
     take_back_changes(on);
@@ -403,16 +412,16 @@ static uint32_t storage_fault(machine *on)
     return CHIP_DONE;
 }
 
-/* A new model or schema instance. The lowest free number is taken; a taken name comes before NO_ROOM. */
-static uint32_t create_entry(machine *on, uint64_t *entries, size_t stride, uint32_t count, uint32_t duplicate,
-                             uint32_t repository, uint32_t schema, uint32_t name)
+/* A new model or schema instance. The lowest free number is taken; a taken name comes before `full`. */
+static outcome create_entry(machine *on, uint64_t *entries, size_t stride, uint32_t count, outcome duplicate,
+                            outcome full, uint32_t repository, uint32_t schema, uint32_t name)
 {
     if (repository >= CHIP_REPOSITORIES)
-        return CHIP_RP_NEXS;
+        return refuse(CHIP_RP_NEXS, CHIP_PLACE_A);
     if (!is_open(on, repository))
-        return CHIP_RP_NOPN;
+        return refuse(CHIP_RP_NOPN, CHIP_PLACE_A);
     if (schema != 1 && schema != 2)
-        return CHIP_SD_NDEF;
+        return refuse(CHIP_SD_NDEF, CHIP_PLACE_B);
     uint64_t created = entry_word(repository, schema, name);
     uint32_t lowest = count;
     for (uint32_t n = count; n-- > 0;) {
@@ -423,20 +432,22 @@ static uint32_t create_entry(machine *on, uint64_t *entries, size_t stride, uint
             return duplicate;
     }
     if (lowest == count)
-        return CHIP_NO_ROOM;
+        return full;
     entries[lowest * stride] = created;
     on->value = lowest;
     return CHIP_DONE;
 }
 
-static uint32_t create_model(machine *on, uint32_t repository, uint32_t schema, uint32_t name)
+static outcome create_model(machine *on, uint32_t repository, uint32_t schema, uint32_t name)
 {
-    return create_entry(on, on->working, 1, CHIP_MODELS, CHIP_MO_DUP, repository, schema, name);
+    return create_entry(on, on->working, 1, CHIP_MODELS, refuse(CHIP_MO_DUP, CHIP_PLACE_C),
+                        refuse(CHIP_NO_ROOM, CHIP_PLACE_MODELS), repository, schema, name);
 }
 
-static uint32_t create_schema_instance(machine *on, uint32_t repository, uint32_t schema, uint32_t name)
+static outcome create_schema_instance(machine *on, uint32_t repository, uint32_t schema, uint32_t name)
 {
-    return create_entry(on, on->working + CHIP_SCHEMA_INSTANCE_AT(0), 2, CHIP_SCHEMA_INSTANCES, CHIP_SI_DUP,
+    return create_entry(on, on->working + CHIP_SCHEMA_INSTANCE_AT(0), 2, CHIP_SCHEMA_INSTANCES,
+                        refuse(CHIP_SI_DUP, CHIP_PLACE_C), refuse(CHIP_NO_ROOM, CHIP_PLACE_SCHEMA_INSTANCES),
                         repository, schema, name);
 }
 
@@ -465,7 +476,7 @@ static int refers_into(const uint64_t *instance, const instance_set *going)
 
 /* MX_NRW if an instance outside those that go refers into them, and its model has no RW access. Else they go, and
  * references to them are unset. */
-static uint32_t delete_instances(machine *on, const instance_set *going)
+static outcome delete_instances(machine *on, const instance_set *going)
 {
     instance_set referrers = {{0}};
     for (uint32_t i = 0; i < CHIP_INSTANCES; i++) {
@@ -473,7 +484,7 @@ static uint32_t delete_instances(machine *on, const instance_set *going)
         if (holds(going, i) || !refers_into(instance, going))
             continue;
         if (!has(on->session->rw, model_of(instance[0])))
-            return CHIP_MX_NRW;
+            return refuse(CHIP_MX_NRW, CHIP_PLACE_REFERENCE);
         include(&referrers, i);
     }
     for (uint32_t i = 0; i < CHIP_INSTANCES; i++) {
@@ -486,17 +497,17 @@ static uint32_t delete_instances(machine *on, const instance_set *going)
     return CHIP_DONE;
 }
 
-static uint32_t delete_model(machine *on, uint32_t model)
+static outcome delete_model(machine *on, uint32_t model)
 {
     if (!is_live_model(on, model))
-        return CHIP_MO_NEXS;
+        return refuse(CHIP_MO_NEXS, CHIP_PLACE_A);
     if (!has(on->session->rw, model))
-        return CHIP_MX_NRW;
+        return refuse(CHIP_MX_NRW, CHIP_PLACE_A);
     instance_set going = {{0}};
     for (uint32_t i = 0; i < CHIP_INSTANCES; i++)
         if (is_live_instance(on, i) && model_of(*instance_at(on, i)) == model)
             include(&going, i);
-    uint32_t refusal = delete_instances(on, &going);
+    outcome refusal = delete_instances(on, &going);
     if (refusal)
         return refusal;
     on->working[model] = 0;
@@ -517,58 +528,58 @@ static int has_access(const machine *on, uint32_t model)
 }
 
 /* 22 and 23; a model has one access at most, so the order of MX_RO and MX_RW does not matter. */
-static uint32_t start_access(machine *on, uint32_t model, uint64_t *access)
+static outcome start_access(machine *on, uint32_t model, uint64_t *access)
 {
     if (!is_live_model(on, model))
-        return CHIP_MO_NEXS;
+        return refuse(CHIP_MO_NEXS, CHIP_PLACE_A);
     if (!model_is_open(on, model))
-        return CHIP_RP_NOPN;
+        return refuse(CHIP_RP_NOPN, CHIP_PLACE_A);
     if (has(on->session->ro, model))
-        return CHIP_MX_RO;
+        return refuse(CHIP_MX_RO, CHIP_PLACE_A);
     if (has(on->session->rw, model))
-        return CHIP_MX_RW;
+        return refuse(CHIP_MX_RW, CHIP_PLACE_A);
     *access |= only(model);
     return CHIP_DONE;
 }
 
-static uint32_t end_access(machine *on, uint32_t model)
+static outcome end_access(machine *on, uint32_t model)
 {
     if (!is_live_model(on, model))
-        return CHIP_MO_NEXS;
+        return refuse(CHIP_MO_NEXS, CHIP_PLACE_A);
     if (!has_access(on, model))
-        return CHIP_MX_NDEF;
+        return refuse(CHIP_MX_NDEF, CHIP_PLACE_A);
     on->session->ro &= ~only(model);
     on->session->rw &= ~only(model);
     return CHIP_DONE;
 }
 
 /* From RO access to RW. A model with access is one of an open repository, so that is not asked. */
-static uint32_t promote(machine *on, uint32_t model)
+static outcome promote(machine *on, uint32_t model)
 {
     if (!is_live_model(on, model))
-        return CHIP_MO_NEXS;
+        return refuse(CHIP_MO_NEXS, CHIP_PLACE_A);
     if (!has_access(on, model))
-        return CHIP_MX_NDEF;
+        return refuse(CHIP_MX_NDEF, CHIP_PLACE_A);
     if (has(on->session->rw, model))
-        return CHIP_MX_RW;
+        return refuse(CHIP_MX_RW, CHIP_PLACE_A);
     on->session->ro &= ~only(model);
     on->session->rw |= only(model);
     return CHIP_DONE;
 }
 
 /* SI_NEXS RP_NOPN, of 31 to 33. */
-static uint32_t schema_instance_refusal(const machine *on, uint32_t number)
+static outcome schema_instance_refusal(const machine *on, uint32_t number)
 {
     if (!is_live_schema_instance(on, number))
-        return CHIP_SI_NEXS;
+        return refuse(CHIP_SI_NEXS, CHIP_PLACE_A);
     if (!is_open(on, repository_of(on->working[CHIP_SCHEMA_INSTANCE_AT(number)])))
-        return CHIP_RP_NOPN;
+        return refuse(CHIP_RP_NOPN, CHIP_PLACE_A);
     return CHIP_DONE;
 }
 
-static uint32_t delete_schema_instance(machine *on, uint32_t number)
+static outcome delete_schema_instance(machine *on, uint32_t number)
 {
-    uint32_t refusal = schema_instance_refusal(on, number);
+    outcome refusal = schema_instance_refusal(on, number);
     if (refusal)
         return refusal;
     on->working[CHIP_SCHEMA_INSTANCE_AT(number)] = 0;
@@ -585,71 +596,71 @@ static uint32_t members(uint64_t set)
     return count;
 }
 
-static uint32_t add_model(machine *on, uint32_t number, uint32_t model)
+static outcome add_model(machine *on, uint32_t number, uint32_t model)
 {
-    uint32_t refusal = schema_instance_refusal(on, number);
+    outcome refusal = schema_instance_refusal(on, number);
     if (refusal)
         return refusal;
     if (!is_live_model(on, model))
-        return CHIP_MO_NEXS;
+        return refuse(CHIP_MO_NEXS, CHIP_PLACE_B);
     if (!model_is_open(on, model))
-        return CHIP_RP_NOPN;
+        return refuse(CHIP_RP_NOPN, CHIP_PLACE_B);
     uint64_t *schema_instance = on->working + CHIP_SCHEMA_INSTANCE_AT(number);
     if (schema_of(on->working[model]) != schema_of(schema_instance[0]))
-        return CHIP_MO_NDEQ;
+        return refuse(CHIP_MO_NDEQ, CHIP_PLACE_B);
     schema_instance[1] |= only(model);
     on->value = members(schema_instance[1]);
     return CHIP_DONE;
 }
 
-static uint32_t remove_model(machine *on, uint32_t number, uint32_t model)
+static outcome remove_model(machine *on, uint32_t number, uint32_t model)
 {
-    uint32_t refusal = schema_instance_refusal(on, number);
+    outcome refusal = schema_instance_refusal(on, number);
     if (refusal)
         return refusal;
     if (!is_live_model(on, model))
-        return CHIP_MO_NEXS;
+        return refuse(CHIP_MO_NEXS, CHIP_PLACE_B);
     uint64_t *set = on->working + CHIP_SCHEMA_INSTANCE_AT(number) + 1;
     if (!has(*set, model))
-        return CHIP_MO_NVLD;
+        return refuse(CHIP_MO_NVLD, CHIP_PLACE_B);
     *set &= ~only(model);
     on->value = members(*set);
     return CHIP_DONE;
 }
 
-static uint32_t create_instance(machine *on, uint32_t model, uint32_t type)
+static outcome create_instance(machine *on, uint32_t model, uint32_t type)
 {
     if (!is_live_model(on, model))
-        return CHIP_MO_NEXS;
+        return refuse(CHIP_MO_NEXS, CHIP_PLACE_A);
     if (!has(on->session->rw, model))
-        return CHIP_MX_NRW;
+        return refuse(CHIP_MX_NRW, CHIP_PLACE_A);
     if (type >= CHIP_TYPES)
-        return CHIP_ED_NDEF;
+        return refuse(CHIP_ED_NDEF, CHIP_PLACE_B);
     if (dictionary[type].schema != schema_of(on->working[model]))
-        return CHIP_ED_NVLD;
+        return refuse(CHIP_ED_NVLD, CHIP_PLACE_B);
     uint32_t lowest = 0;
     while (is_live_instance(on, lowest))
         lowest++;
     if (lowest == CHIP_INSTANCES)
-        return CHIP_NO_ROOM;
+        return refuse(CHIP_NO_ROOM, CHIP_PLACE_INSTANCES);
     *instance_at(on, lowest) = 1 + type + (model << 8);
     on->value = lowest;
     return CHIP_DONE;
 }
 
 /* EI_NEXS MX_NRW, of 41, 44 and 45. */
-static uint32_t write_refusal(const machine *on, uint32_t number)
+static outcome write_refusal(const machine *on, uint32_t number)
 {
     if (!is_live_instance(on, number))
-        return CHIP_EI_NEXS;
+        return refuse(CHIP_EI_NEXS, CHIP_PLACE_A);
     if (!has(on->session->rw, model_of(*instance_at(on, number))))
-        return CHIP_MX_NRW;
+        return refuse(CHIP_MX_NRW, CHIP_PLACE_A);
     return CHIP_DONE;
 }
 
-static uint32_t delete_instance(machine *on, uint32_t number)
+static outcome delete_instance(machine *on, uint32_t number)
 {
-    uint32_t refusal = write_refusal(on, number);
+    outcome refusal = write_refusal(on, number);
     if (refusal)
         return refusal;
     instance_set going = {{0}};
@@ -663,15 +674,15 @@ static int has_attribute(const uint64_t *instance, uint32_t attribute)
 }
 
 /* EI_NEXS RP_NOPN AT_NDEF, of 42 and 43. */
-static uint32_t read_refusal(const machine *on, uint32_t number, uint32_t attribute)
+static outcome read_refusal(const machine *on, uint32_t number, uint32_t attribute)
 {
     if (!is_live_instance(on, number))
-        return CHIP_EI_NEXS;
+        return refuse(CHIP_EI_NEXS, CHIP_PLACE_A);
     const uint64_t *instance = instance_at(on, number);
     if (!model_is_open(on, model_of(instance[0])))
-        return CHIP_RP_NOPN;
+        return refuse(CHIP_RP_NOPN, CHIP_PLACE_A);
     if (!has_attribute(instance, attribute))
-        return CHIP_AT_NDEF;
+        return refuse(CHIP_AT_NDEF, CHIP_PLACE_B);
     return CHIP_DONE;
 }
 
@@ -681,22 +692,22 @@ static void wake(machine *on, uint32_t model)
     on->session->ro |= only(model) & ~on->session->rw;
 }
 
-static uint32_t get_attribute(machine *on, uint32_t number, uint32_t attribute)
+static outcome get_attribute(machine *on, uint32_t number, uint32_t attribute)
 {
-    uint32_t refusal = read_refusal(on, number, attribute);
+    outcome refusal = read_refusal(on, number, attribute);
     if (refusal)
         return refusal;
     const uint64_t *instance = instance_at(on, number);
     if (!has(flags_of(instance[0]), attribute))
-        return CHIP_VA_NSET;
+        return refuse(CHIP_VA_NSET, CHIP_PLACE_B);
     on->value = (uint32_t)instance[1 + attribute];
     wake(on, model_of(instance[0]));
     return CHIP_DONE;
 }
 
-static uint32_t test_attribute(machine *on, uint32_t number, uint32_t attribute)
+static outcome test_attribute(machine *on, uint32_t number, uint32_t attribute)
 {
-    uint32_t refusal = read_refusal(on, number, attribute);
+    outcome refusal = read_refusal(on, number, attribute);
     if (refusal)
         return refusal;
     const uint64_t *instance = instance_at(on, number);
@@ -718,26 +729,26 @@ static int share_a_set(const machine *on, uint32_t model, uint32_t other)
 }
 
 /* VA_NVLD VT_NVLD MO_NVLD, of 44 for a reference. */
-static uint32_t reference_refusal(const machine *on, uint64_t from, uint32_t target)
+static outcome reference_refusal(const machine *on, uint64_t from, uint32_t target)
 {
     if (!is_live_instance(on, target))
-        return CHIP_VA_NVLD;
+        return refuse(CHIP_VA_NVLD, CHIP_PLACE_C);
     uint64_t to = *instance_at(on, target);
     if (!is_subtype_of(type_of(to), definition_of(from)->target))
-        return CHIP_VT_NVLD;
+        return refuse(CHIP_VT_NVLD, CHIP_PLACE_C);
     if (!share_a_set(on, model_of(from), model_of(to)))
-        return CHIP_MO_NVLD;
+        return refuse(CHIP_MO_NVLD, CHIP_PLACE_C);
     return CHIP_DONE;
 }
 
-static uint32_t put_attribute(machine *on, uint32_t number, uint32_t attribute, uint32_t value)
+static outcome put_attribute(machine *on, uint32_t number, uint32_t attribute, uint32_t value)
 {
-    uint32_t refusal = write_refusal(on, number);
+    outcome refusal = write_refusal(on, number);
     if (refusal)
         return refusal;
     uint64_t *instance = instance_at(on, number);
     if (!has_attribute(instance, attribute))
-        return CHIP_AT_NDEF;
+        return refuse(CHIP_AT_NDEF, CHIP_PLACE_B);
     if (attribute == definition_of(instance[0])->reference)
         refusal = reference_refusal(on, instance[0], value);
     if (refusal)
@@ -746,24 +757,26 @@ static uint32_t put_attribute(machine *on, uint32_t number, uint32_t attribute, 
     return CHIP_DONE;
 }
 
-static uint32_t unset_attribute(machine *on, uint32_t number, uint32_t attribute)
+static outcome unset_attribute(machine *on, uint32_t number, uint32_t attribute)
 {
-    uint32_t refusal = write_refusal(on, number);
+    outcome refusal = write_refusal(on, number);
     if (refusal)
         return refusal;
     uint64_t *instance = instance_at(on, number);
     if (!has_attribute(instance, attribute))
-        return CHIP_AT_NDEF;
+        return refuse(CHIP_AT_NDEF, CHIP_PLACE_B);
     unset_value(instance, attribute);
     return CHIP_DONE;
 }
 
-static uint32_t subtype_test(machine *on, uint32_t type, uint32_t other)
+static outcome subtype_test(machine *on, uint32_t type, uint32_t other)
 {
-    if (type >= CHIP_TYPES || other >= CHIP_TYPES)
-        return CHIP_ED_NDEF;
+    if (type >= CHIP_TYPES)
+        return refuse(CHIP_ED_NDEF, CHIP_PLACE_A);
+    if (other >= CHIP_TYPES)
+        return refuse(CHIP_ED_NDEF, CHIP_PLACE_B);
     if (dictionary[type].schema != dictionary[other].schema)
-        return CHIP_ED_NDEQ;
+        return refuse(CHIP_ED_NDEQ, CHIP_PLACE_B);
     on->value = (uint32_t)is_subtype_of(type, other);
     return CHIP_DONE;
 }
@@ -779,7 +792,7 @@ static uint32_t subtype_test(machine *on, uint32_t type, uint32_t other)
     (FROM_TO(20, 21) | FROM_TO(23, 23) | FROM_TO(25, 25) | FROM_TO(30, 33) | FROM_TO(40, 41) | FROM_TO(44, 45))
 
 /* What is asked of every call, and the transaction of 20 to 45. */
-static uint32_t general_refusal(const chip_session *session, uint32_t op)
+static outcome general_refusal(const chip_session *session, uint32_t op)
 {
     if (op > CHIP_SUBTYPE_TEST || !has(LISTED, op))
         return CHIP_FN_NAVL;
@@ -798,9 +811,9 @@ static uint32_t general_refusal(const chip_session *session, uint32_t op)
     return CHIP_DONE;
 }
 
-static uint32_t perform(machine *on, uint32_t op, uint32_t a, uint32_t b, uint32_t c)
+static outcome perform(machine *on, uint32_t op, uint32_t a, uint32_t b, uint32_t c)
 {
-    uint32_t refusal = general_refusal(on->session, op);
+    outcome refusal = general_refusal(on->session, op);
     if (refusal)
         return refusal;
     switch (op) {
@@ -838,13 +851,13 @@ static uint32_t perform(machine *on, uint32_t op, uint32_t a, uint32_t b, uint32
 }
 
 /* One event more; a full log loses its oldest. */
-static void record_event(chip_session *session, uint32_t op, uint32_t refusal)
+static void record_event(chip_session *session, uint32_t op, outcome refusal)
 {
     if (session->count == CHIP_EVENTS) {
         session->count--;
         memmove(session->events, session->events + 1, session->count * sizeof *session->events);
     }
-    session->events[session->count++] = (chip_event){op, refusal};
+    session->events[session->count++] = (chip_event){op, (uint8_t)refusal, (uint8_t)(refusal >> 8)};
 }
 
 chip_answer model_core(uint32_t op, uint32_t a, uint32_t b, uint32_t c, chip_session session,
@@ -854,10 +867,10 @@ chip_answer model_core(uint32_t op, uint32_t a, uint32_t b, uint32_t c, chip_ses
     (void)working_words;
     (void)kept_words;
     machine on = {&session, working, kept, 0};
-    uint32_t refusal = perform(&on, op, a, b, c);
+    outcome refusal = perform(&on, op, a, b, c);
     if (refusal && session.recording)
         record_event(&session, op, refusal);
-    return (chip_answer){refusal, on.value, session};
+    return (chip_answer){refusal & 0xff, refusal >> 8, on.value, session};
 }
 
 chip_answer model_call(uint32_t op, uint32_t a, uint32_t b, uint32_t c, chip_session session,
@@ -865,6 +878,6 @@ chip_answer model_call(uint32_t op, uint32_t a, uint32_t b, uint32_t c, chip_ses
                        uint64_t *kept, size_t kept_words)
 {
     if (!sound(&session, working, working_words, kept, kept_words))
-        return (chip_answer){CHIP_SY_ERR, 0, session};
+        return (chip_answer){CHIP_SY_ERR, CHIP_PLACE_NONE, 0, session};
     return model_core(op, a, b, c, session, working, working_words, kept, kept_words);
 }

@@ -1,4 +1,4 @@
-/* The reader's program of document 01 in plain C: standard input to standard output. */
+/* The reader's program of documents 01 and 02 in plain C: standard input to standard output. */
 #include "records.h"
 
 int main(void)

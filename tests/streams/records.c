@@ -43,7 +43,8 @@ int read_records(FILE *in, FILE *out)
                                         working, CHIP_WORDS, kept, CHIP_WORDS);
         session = answer.session;
         done++;
-        fprintf(out, "%lu %u %u %u\n", done, (unsigned)op, (unsigned)answer.refusal, (unsigned)answer.value);
+        fprintf(out, "%lu %u %u %u %u\n", done, (unsigned)op, (unsigned)answer.refusal, (unsigned)answer.value,
+                (unsigned)answer.place);
     }
     if (got == 0)
         fprintf(out, "end %lu\n", done);

@@ -13,7 +13,7 @@
 /* The RECORD_BYTES bytes of a call. */
 void put_record(unsigned char *record, const call *asked);
 
-/* Takes records from a fresh chip on and prints what document 01 asks for; 0 if all could be read and written. */
+/* Takes records from a fresh chip on and prints what documents 01 and 02 ask for; 0 if all could be read and written. */
 int read_records(FILE *in, FILE *out);
 
 #endif

@@ -1,8 +1,8 @@
 // A call on a chip, and what is printed of it.
+use crate::printing::is_done;
 use crate::printing::line;
 use session::call::call;
 use session::events::blank_log;
-use session::refusals;
 use session::state::Session;
 use session::state::closed_state;
 use words::layout::WORDS;
@@ -31,8 +31,8 @@ fn ask(chip: Chip, op: u32, a: u32, b: u32, c: u32, about: bool) -> Chip {
     let mut working = chip.working;
     let mut kept = chip.kept;
     let answer = call(op, a, b, c, session, &mut working, &mut kept);
-    if about | (answer.refusal != refusals::DONE) {
-        line(op, a, b, c, answer.refusal, answer.value);
+    if about | !is_done(answer.refusal) {
+        line(op, a, b, c, answer.refusal, answer.place, answer.value);
     }
     let session = answer.session;
     Chip {

@@ -2,6 +2,7 @@
 ghost use Prim.Native.Nat.{_≤_};
 use libc::STDOUT_FILENO;
 use session::refusals;
+use session::state::Event;
 use session::state::Log;
 
 fn text(bytes: &[u8]) {
@@ -20,8 +21,8 @@ pub fn title(name: &[u8]) {
 }
 
 // A refusal by the page's name, with blanks up to seven letters.
-fn name(refusal: u32) -> [u8; 7] {
-    match refusal {
+fn name(number: u8) -> [u8; 7] {
+    match number {
         refusals::SY_ERR => *b"SY_ERR ",
         refusals::FN_NAVL => *b"FN_NAVL",
         refusals::SS_OPN => *b"SS_OPN ",
@@ -71,30 +72,36 @@ fn letters(name: [u8; 7]) -> usize
     7
 }
 
-fn refusal_after(bytes: &[u8], refusal: u32) {
-    let name = name(refusal);
+// A refusal and its place.
+fn refusal_after(bytes: &[u8], refusal: u16, place: u16) {
+    let name = name((refusal % 0x100) as u8);
     let n = letters(name);
     text(bytes);
     text(&name[0..n]);
+    number_after(b" on ", place as u32);
 }
 
-// A call: its operation and arguments, and its value or its refusal.
-pub fn line(op: u32, a: u32, b: u32, c: u32, refusal: u32, value: u32) {
+pub fn is_done(refusal: u16) -> bool {
+    (refusal as u32) == refusals::DONE
+}
+
+// A call: its operation and arguments, and its value or its refusal on its place.
+pub fn line(op: u32, a: u32, b: u32, c: u32, refusal: u16, place: u16, value: u32) {
     number_after(b"  ", op);
     number_after(b"(", a);
     number_after(b", ", b);
     number_after(b", ", c);
-    if refusal == refusals::DONE {
+    if is_done(refusal) {
         number_after(b"): ", value);
     } else {
-        refusal_after(b"): ", refusal);
+        refusal_after(b"): ", refusal, place);
     }
     text(b"\n");
 }
 
-fn event(op: u32, refusal: u32) {
-    number_after(b"  ", op);
-    refusal_after(b": ", refusal);
+fn event(e: Event) {
+    number_after(b"  ", e.op);
+    refusal_after(b": ", e.refusal as u16, e.place as u16);
     text(b"\n");
 }
 
@@ -104,7 +111,7 @@ pub fn events(log: Log) {
     let mut i: usize = 0;
     while i < 16 {
         let e = places[i];
-        event(e.op, e.refusal);
+        event(e);
         i += 1;
     }
 }

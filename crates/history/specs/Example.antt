@@ -38,7 +38,7 @@ unfolding SetTo the-table
 holds-five = (call 40 0 2 0, call 40 0 2 0, still (now (record { put = refl; value = refl; instance = now (refl, refl); named = λ q. clash false q refl })) refl)
 
 -- after it the abort alone remains: the refused 42 is struck out, and what came before is dropped; nothing is live
-pub abort-remains : remaining ten ≡ call 8 0 0 0 gives (0, 0) ∷ []
+pub abort-remains : remaining ten ≡ call 8 0 0 0 gives (0, 0, 0) ∷ []
 unfolding remaining remainingIf
 abort-remains = refl
 

@@ -25,7 +25,7 @@ use Rattle.session.specs.Checks.{firstOf, gate}
 use Rattle.session.specs.Effects.{workingAfter, keptAfter, unlessRefused}
 use Rattle.session.specs.Rows.{Row, effect, refusalOf, performed}
 use Rattle.session.specs.Step.{Outcome, answer, outcome, finished, core, step}
-use Rattle.session.specs.Runs.{Call, Answered, Chip, Empty, Fresh, answeredBy, outcomeOf, afterBy, historyBy, after, history}
+use Rattle.session.specs.Runs.{Call, Answered, Chip, Empty, Fresh, answered, answeredBy, outcomeOf, afterBy, historyBy, after, history}
 use Rattle.promises.specs.Keeps.SessionFacts.{Sound, sound-test}
 use Rattle.promises.specs.Keeps.Ways.{Way, unsound, refusing, doing, way}
 use Rattle.promises.specs.Keeps.Alike.{row-alike, access-alike, apply-alike}
@@ -191,7 +191,7 @@ module _ (begun begun′ : Chip) (h : AlikeChips begun begun′) where
   alike-history [] = refl
   alike-history (q ∷ calls) =
       ap
-      (λ (a : Answer). record { call = q; refusal = a .refusal; value = a .value } ∷ history begun calls)
+      (λ (a : Answer). answered q a ∷ history begun calls)
       (alike-outcomes _ _ (alike-after calls) q .answers)
       ∙ ap (λ (l : List Answered). answeredBy q (outcomeOf (after begun′ calls) q) ∷ l) (alike-history calls)
 

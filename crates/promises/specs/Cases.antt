@@ -32,7 +32,7 @@ pub data Case : Type 0 where
   _is_ : ℕ → ℕ → Case
   run : List Answered → Case
   header-after : List Answered → ℕ → Case
-  subtype-test : ℕ → ℕ → ℕ × ℕ → Case
+  subtype-test : ℕ → ℕ → ℕ × ℕ × ℕ → Case
 
 abbrev pub Holds : Case → Type 0
 Holds (n is m) = n ≡ m
@@ -53,14 +53,14 @@ cases =
     ∷ labelOf 0 1 7 is 1099511627783
     ∷ header-after (take 7 tenRecords) 65539
     -- 46, in an open session
-    ∷ subtype-test 3 0 (0, 1)
-    ∷ subtype-test 0 3 (0, 0)
-    ∷ subtype-test 9 9 (0, 1)
-    ∷ subtype-test 2 8 (25, 0)
-    ∷ subtype-test 10 0 (24, 0)
+    ∷ subtype-test 3 0 (0, 1, 0)
+    ∷ subtype-test 0 3 (0, 0, 0)
+    ∷ subtype-test 9 9 (0, 1, 0)
+    ∷ subtype-test 2 8 (25, 0, 2)
+    ∷ subtype-test 10 0 (24, 0, 1)
     -- 14 and 2, on a fresh chip
-    ∷ run (call 14 0 0 0 gives (2, 0) ∷ [])
-    ∷ run (call 2 0 0 0 gives (4, 0) ∷ [])
+    ∷ run (call 14 0 0 0 gives (2, 0, 0) ∷ [])
+    ∷ run (call 2 0 0 0 gives (4, 0, 0) ∷ [])
     -- the set of all models, and the empty one
     ∷ sizeOf (2 ^ 64 - 1) is 64
     ∷ sizeOf none is 0
@@ -75,7 +75,7 @@ by-core rows n e begun fresh =
     ∙ sym (ap (λ (chip : Chip). headerAt (chip .working) 0) (same-after freshChip fresh-chip core core-alike calls))
     ∙ e
 
-in-session : (a b : ℕ) (r : ℕ × ℕ)
+in-session : (a b : ℕ) (r : ℕ × ℕ × ℕ)
     → ((chip : Chip) → isOpen (chip .session .state) ≡ true → (c : ℕ) → answeredBy (call 46 a b c) (outcomeBy core chip (call 46 a b c)) ≡ (call 46 a b c gives r))
     → Holds (subtype-test a b r)
 in-session a b r f chip h opened c = ap (answeredBy (call 46 a b c)) (sym (core-alike chip h (call 46 a b c))) ∙ f chip opened c

@@ -1,4 +1,4 @@
--- What a machine can be asked: numbers below 2^32, words below 2^64, sixteen event places.
+-- What a machine can be asked: numbers below 2^32, words below 2^64, sixteen events whose refusal and place have a byte each.
 use mathlib.Core.Bool.{Bool, true, _&&_}
 use mathlib.Core.List.{List, [], _∷_}
 use Prim.Native.Nat.{ℕ}
@@ -10,6 +10,12 @@ use Rattle.session.specs.declared.state.Event.{Event}
 use Rattle.session.specs.declared.state.Log.{Log}
 use Rattle.session.specs.States.{places}
 use Rattle.session.specs.Runs.{Call, Chip, Machine, afterBy}
+
+abbrev pub fits8 : ℕ → Bool
+fits8 n = ltb n 0x100
+
+abbrev pub fits16 : ℕ → Bool
+fits16 n = ltb n 0x1_0000
 
 abbrev pub fits32 : ℕ → Bool
 fits32 n = ltb n 0x1_0000_0000
@@ -24,7 +30,7 @@ abbrev pub stateFits : State → Bool
 stateFits s = fits32 (s .opened) && fits32 (s .recording) && fits32 (s .transaction) && fits64 (s .repositories) && fits64 (s .ro) && fits64 (s .rw)
 
 abbrev pub eventFits : Event → Bool
-eventFits e = fits32 (e .op) && fits32 (e .refusal)
+eventFits e = fits32 (e .op) && fits8 (e .refusal) && fits8 (e .place) && fits16 (e .unused)
 
 abbrev pub logFits : Log → Bool
 logFits l = fits64 (l .count) && eqb (length (l .events)) places && allIn eventFits (l .events)

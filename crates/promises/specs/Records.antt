@@ -8,10 +8,10 @@ use Rattle.promises.specs.Fresh.{fresh-chip}
 use Rattle.promises.specs.Reached.{core-alike, same-history}
 use Rattle.promises.specs.Beyond.{alike-history, fresh-alike}
 
--- a call, and its refusal and value
+-- a call, and its refusal, value and place
 infix 70 _gives_
-abbrev pub _gives_ : Call → ℕ × ℕ → Answered
-q gives r = record { call = q; refusal = r .0; value = r .1 }
+abbrev pub _gives_ : Call → ℕ × ℕ × ℕ → Answered
+q gives r = record { call = q; refusal = r .0; value = r .1; place = r .2 }
 
 unfoldable pub asked : List Answered → List Call
 asked [] = []
@@ -29,14 +29,14 @@ computed h e begun fresh =
 -- CHIP, reader
 abbrev pub tenRecords : List Answered
 tenRecords =
-    call 1 0 0 0 gives (0, 0)
-    ∷ call 3 0 0 0 gives (0, 0)
-    ∷ call 5 0 0 0 gives (0, 0)
-    ∷ call 20 0 1 7 gives (0, 0)
-    ∷ call 23 0 0 0 gives (0, 0)
-    ∷ call 40 0 2 0 gives (0, 0)
-    ∷ call 44 0 0 5 gives (0, 0)
-    ∷ call 42 0 0 0 gives (0, 5)
-    ∷ call 8 0 0 0 gives (0, 0)
-    ∷ call 42 0 0 0 gives (27, 0)
+    call 1 0 0 0 gives (0, 0, 0)
+    ∷ call 3 0 0 0 gives (0, 0, 0)
+    ∷ call 5 0 0 0 gives (0, 0, 0)
+    ∷ call 20 0 1 7 gives (0, 0, 0)
+    ∷ call 23 0 0 0 gives (0, 0, 0)
+    ∷ call 40 0 2 0 gives (0, 0, 0)
+    ∷ call 44 0 0 5 gives (0, 0, 0)
+    ∷ call 42 0 0 0 gives (0, 5, 0)
+    ∷ call 8 0 0 0 gives (0, 0, 0)
+    ∷ call 42 0 0 0 gives (27, 0, 1)
     ∷ []

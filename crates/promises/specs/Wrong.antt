@@ -75,7 +75,7 @@ possibleRun calls = possibleBy core freshChip calls
 
 -- the answer to the call that n others follow
 back : List Answered → ℕ → Answered
-back h n = getD h n (call 0 0 0 0 gives (0, 0))
+back h n = getD h n (call 0 0 0 0 gives (0, 0, 0))
 
 abbrev tenCalls : List Call
 tenCalls = asked (reverse tenRecords)
@@ -87,13 +87,13 @@ ten-possible = refl
 -- seven calls, the last two of which add a model to a set and take it out
 abbrev sevenRecords : List Answered
 sevenRecords =
-    call 1 0 0 0 gives (0, 0)
-    ∷ call 3 0 0 0 gives (0, 0)
-    ∷ call 5 0 0 0 gives (0, 0)
-    ∷ call 20 0 1 7 gives (0, 0)
-    ∷ call 30 0 1 7 gives (0, 0)
-    ∷ call 32 0 0 0 gives (0, 1)
-    ∷ call 33 0 0 0 gives (0, 0)
+    call 1 0 0 0 gives (0, 0, 0)
+    ∷ call 3 0 0 0 gives (0, 0, 0)
+    ∷ call 5 0 0 0 gives (0, 0, 0)
+    ∷ call 20 0 1 7 gives (0, 0, 0)
+    ∷ call 30 0 1 7 gives (0, 0, 0)
+    ∷ call 32 0 0 0 gives (0, 1, 0)
+    ∷ call 33 0 0 0 gives (0, 0, 0)
     ∷ []
 
 abbrev sevenCalls : List Call

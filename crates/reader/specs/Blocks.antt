@@ -60,7 +60,7 @@ afterCall op o x =
       kept = o .kept;
       done = x .done + 1;
       on = true;
-      text = x .text ++ lineText (x .done + 1) op (o .answer .refusal) (o .answer .value);
+      text = x .text ++ lineText (x .done + 1) op (o .answer .refusal) (o .answer .value) (o .answer .place);
     }
 
 abbrev pub afterRecord : Record → Here → Here

@@ -36,7 +36,7 @@ inputOf bytes = inputIn (length bytes) bytes []
 -- a line for each record, counted from 1
 unfoldable pub linesOf : List Answered → List ℕ
 linesOf [] = []
-linesOf (x ∷ earlier) = linesOf earlier ++ lineText (length earlier + 1) (x .call .op) (x .refusal) (x .value)
+linesOf (x ∷ earlier) = linesOf earlier ++ lineText (length earlier + 1) (x .call .op) (x .refusal) (x .value) (x .place)
 
 -- the last line: the records done, or the count of the bad one
 abbrev pub lastLine : Bool → ℕ → List ℕ

@@ -59,7 +59,15 @@ fn answered(start: Run, rec: Record, out: &mut [u8], working: &mut [u64], kept: 
     let session = start.session;
     let answer = core(rec.op, rec.a, rec.b, rec.c, session, working, kept);
     let done = start.done + 1;
-    let at = line(out, start.at, done, rec.op, answer.refusal, answer.value);
+    let at = line(
+        out,
+        start.at,
+        done,
+        rec.op,
+        answer.refusal,
+        answer.value,
+        answer.place,
+    );
     let next = answer.session;
     Run {
         session: next,

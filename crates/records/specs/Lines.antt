@@ -33,8 +33,8 @@ abbrev pub ended : ℕ → ℕ → List ℕ
 ended n stop = decimal n ++ (stop ∷ [])
 
 -- the line of a record (CHIP, reader)
-abbrev pub lineText : ℕ → ℕ → ℕ → ℕ → List ℕ
-lineText n op refusal value = ended n blank ++ ended op blank ++ ended refusal blank ++ ended value lineFeed
+abbrev pub lineText : ℕ → ℕ → ℕ → ℕ → ℕ → List ℕ
+lineText n op refusal value place = ended n blank ++ ended op blank ++ ended refusal blank ++ ended value blank ++ ended place lineFeed
 
 -- a word of three letters, and a number
 abbrev pub lastText : ℕ → ℕ → ℕ → ℕ → List ℕ

@@ -63,24 +63,34 @@ fn fits(room: usize, at: usize, size: usize) -> bool
     if at <= room { size <= room - at } else { false }
 }
 
-pub fn line(out: &mut [u8], at: usize, n: u64, op: u32, refusal: u32, value: u32) -> usize
-    ensures { λ r. ⌜ (now (out .exit) ≡ written (now (out .entry)) at (lineText n op refusal value)) × (r ≡ after (now (out .entry)) at (lineText n op refusal value)) ⌝ }
+pub fn line(
+    out: &mut [u8],
+    at: usize,
+    n: u64,
+    op: u32,
+    refusal: u16,
+    value: u32,
+    place: u16,
+) -> usize
+    ensures { λ r. ⌜ (now (out .exit) ≡ written (now (out .entry)) at (lineText n op refusal value place)) × (r ≡ after (now (out .entry)) at (lineText n op refusal value place)) ⌝ }
 {
     let count_width = width(n);
     let op_width = width(op as u64);
     let refusal_width = width(refusal as u64);
     let value_width = width(value as u64);
+    let place_width = width(place as u64);
     if !fits(
         out.len(),
         at,
-        count_width + op_width + refusal_width + value_width + 4,
+        count_width + op_width + refusal_width + value_width + place_width + 5,
     ) {
         return at;
     }
     let second = field(out, at, count_width, n, BLANK);
     let third = field(out, second, op_width, op as u64, BLANK);
     let fourth = field(out, third, refusal_width, refusal as u64, BLANK);
-    field(out, fourth, value_width, value as u64, LINE_FEED)
+    let fifth = field(out, fourth, value_width, value as u64, BLANK);
+    field(out, fifth, place_width, place as u64, LINE_FEED)
 }
 
 // A word of three letters and a blank.

@@ -11,17 +11,17 @@ use Rattle.tables.specs.View.{shareSet}
 use Rattle.session.specs.declared.operations.Operation.{Operation}
 use Rattle.session.specs.declared.operations.Operation.the-variants.{Unlisted, Opening, InSession, Reader, Writer}
 use Rattle.session.specs.declared.state.State.{State}
-use Rattle.session.specs.Refusals.{FN-NAVL, SS-OPN, SS-NOPN, TR-EAB, TR-NAVL, TR-NRW, done}
+use Rattle.session.specs.Refusals.{FN-NAVL, SS-OPN, SS-NOPN, TR-EAB, TR-NAVL, TR-NRW, done, _on_}
 use Rattle.session.specs.States.{NONE, RO, ABORTED, isOpen, under}
 
--- a condition and the refusal that it gives
+-- a condition and the refusal that it gives, on its place
 infix 70 _gives_
 pub record Check : Type 0 where
   pub condition : Bool
   pub refusal : ℕ
 
 abbrev pub _gives_ : Bool → ℕ → Check
-b gives n = record { condition = b; refusal = n }
+b gives refusal = record { condition = b; refusal = refusal }
 
 -- the first whose condition holds
 unfoldable pub firstOf : List Check → ℕ
@@ -81,11 +81,11 @@ apart w m n = not (eqb m n || shareSet w m n)
 
 -- a session and a transaction are open, and then the rest
 abbrev pub transacted : State → List Check → List Check
-transacted s rest = not (isOpen s) gives SS-NOPN ∷ under s ABORTED gives TR-EAB ∷ under s NONE gives TR-NAVL ∷ rest
+transacted s rest = not (isOpen s) gives SS-NOPN on 0 ∷ under s ABORTED gives TR-EAB on 0 ∷ under s NONE gives TR-NAVL on 0 ∷ rest
 
 abbrev pub gate : Operation → State → List Check
-gate Unlisted s = true gives FN-NAVL ∷ []
-gate Opening s = isOpen s gives SS-OPN ∷ []
-gate (InSession o) s = not (isOpen s) gives SS-NOPN ∷ []
+gate Unlisted s = true gives FN-NAVL on 0 ∷ []
+gate Opening s = isOpen s gives SS-OPN on 0 ∷ []
+gate (InSession o) s = not (isOpen s) gives SS-NOPN on 0 ∷ []
 gate (Reader o) s = transacted s []
-gate (Writer o) s = transacted s (under s RO gives TR-NRW ∷ [])
+gate (Writer o) s = transacted s (under s RO gives TR-NRW on 0 ∷ [])

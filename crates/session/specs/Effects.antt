@@ -13,7 +13,7 @@ use Rattle.session.specs.declared.state.State.{State}
 use Rattle.session.specs.declared.effects.Tables.{Tables}
 use Rattle.session.specs.declared.effects.Tables.the-variants.{Stay, Commit, Drop, Changed}
 use Rattle.session.specs.declared.effects.Effect.{Effect}
-use Rattle.session.specs.Refusals.{NO-ROOM, done}
+use Rattle.session.specs.Refusals.{NO-ROOM, done, _on_, roomOf}
 use Rattle.session.specs.States.{RW, under}
 
 -- what becomes of the tables: nothing; a commit copies working to kept, a drop kept to working; or working is changed
@@ -36,8 +36,8 @@ does value s tables = record { refusal = done; value = value; state = s; tables 
 abbrev pub refuses : ℕ → State → Effect
 refuses refusal s = record { refusal = refusal; value = 0; state = s; tables = Stay }
 
-abbrev pub full : State → Effect
-full s = refuses NO-ROOM s
+abbrev pub full : Kind → State → Effect
+full kind s = refuses (NO-ROOM on roomOf kind) s
 
 -- the effect, unless a check refuses
 abbrev pub unlessRefused : ℕ → State → Effect → Effect
@@ -56,4 +56,4 @@ abbrev pub created : Kind → ℕ → State → List ℕ → Effect
 created kind first s w =
     cond (ltb (nextFree w kind) (countOf kind))
     (does (nextFree w kind) s (Changed (Made kind (nextFree w kind) first)))
-    (full s)
+    (full kind s)

@@ -1,5 +1,8 @@
--- The refusal numbers (CHIP, refusals), by the standard's names, NO_ROOM by ours. 0 is done.
-use Prim.Native.Nat.{ℕ}
+-- The refusal numbers (CHIP, refusals), by the standard's names, NO_ROOM by ours, and the places that they name (CHIP, places).
+-- 0 is done, on no place.
+use Prim.Native.Nat.{ℕ, _+_, _*_, _/_, _%_}
+use Rattle.words.specs.declared.layout.Kind.{Kind}
+use Rattle.words.specs.declared.layout.Kind.the-variants.{Model, SchemaInstance, Instance}
 
 abbrev pub done : ℕ
 done = 0
@@ -131,3 +134,25 @@ VT-NVLD = 31
 -- every entry live
 abbrev pub NO-ROOM : ℕ
 NO-ROOM = 32
+
+-- ---- a refusal on its place, as one number: place 0 is none, 1 to 3 the argument that failed its check
+
+infix 75 _on_
+abbrev pub _on_ : ℕ → ℕ → ℕ
+number on place = number + 0x100 * place
+
+abbrev pub numberIn : ℕ → ℕ
+numberIn refusal = refusal % 0x100
+
+abbrev pub placeIn : ℕ → ℕ
+placeIn refusal = refusal / 0x100 % 0x100
+
+-- NO_ROOM: which table is full
+abbrev pub roomOf : Kind → ℕ
+roomOf Model = 4
+roomOf SchemaInstance = 5
+roomOf Instance = 6
+
+-- MX_NRW of 21 and 41: a reference that remains; the last place that there is
+abbrev pub REMAINING : ℕ
+REMAINING = 7

@@ -1,5 +1,5 @@
--- The table of CHIP, operations: for each operation its refusals in the page's order, each with its condition,
--- and the effect when none of them is given.
+-- The table of CHIP, operations: for each operation its refusals in the page's order, each with its condition and the place
+-- that it names, and the effect when none of them is given.
 use Prim.Native.Nat.{ℕ}
 use mathlib.Core.Bool.{not}
 use mathlib.Core.List.{List, [], _∷_, _++_}
@@ -26,7 +26,7 @@ use Rattle.session.specs.declared.operations.Writer.the-variants as writ
 use Rattle.session.specs.declared.state.State.{State}
 use Rattle.session.specs.declared.effects.Tables.the-variants.{Stay, Commit, Drop, Changed}
 use Rattle.session.specs.declared.effects.Effect.{Effect}
-use Rattle.session.specs.Refusals.{TR-EAB, TR-EXS, TR-NEXS, TR-NAVL, TR-NRW, RP-NEXS, RP-OPN, RP-NOPN, MO-NEXS, MO-DUP, MO-NDEQ, MO-NVLD, MX-RO, MX-RW, MX-NDEF, MX-NRW, SD-NDEF, SI-NEXS, SI-DUP, ED-NDEF, ED-NDEQ, ED-NVLD, EI-NEXS, AT-NDEF, VA-NSET, VA-NVLD, VT-NVLD}
+use Rattle.session.specs.Refusals.{TR-EAB, TR-EXS, TR-NEXS, TR-NAVL, TR-NRW, RP-NEXS, RP-OPN, RP-NOPN, MO-NEXS, MO-DUP, MO-NDEQ, MO-NVLD, MX-RO, MX-RW, MX-NDEF, MX-NRW, SD-NDEF, SI-NEXS, SI-DUP, ED-NDEF, ED-NDEQ, ED-NVLD, EI-NEXS, AT-NDEF, VA-NSET, VA-NVLD, VT-NVLD, _on_, REMAINING}
 use Rattle.session.specs.States.{NONE, RO, RW, ABORTED, under, withRecording, withTransaction, withRepositories, withAccess, woken, ended, closedState, openedState}
 use Rattle.session.specs.Checks.{Check, _gives_, firstOf, noRepository, notOpened, away, missing, noWriting, noAccess, lacksAttribute, schemasDiffer, typeForeign, typesDiffer, wrongType, apart, gate}
 use Rattle.session.specs.Effects.{does, unlessRefused, ifWriting, number, created}
@@ -40,49 +40,50 @@ infix 60 _then_
 abbrev pub _then_ : List Check → Effect → Row
 checks then effect = record { checks = checks; effect = effect }
 
--- the entry with this first word is there, or this refusal is given, and its repository is open; and then the rest
-abbrev pub inReach : ℕ → ℕ → State → List Check → List Check
-inReach label refusal s rest = missing label gives refusal ∷ away s label gives RP-NOPN ∷ rest
+-- the entry with this first word, which the argument at this place names, is there, or this refusal is given, and its
+-- repository is open; and then the rest
+abbrev pub inReach : ℕ → ℕ → ℕ → State → List Check → List Check
+inReach label refusal place s rest = missing label gives refusal on place ∷ away s label gives RP-NOPN on place ∷ rest
 
 -- the entry with this first word is there, or this refusal is given, and model m has read-write access; and then the rest
 abbrev pub writable : ℕ → ℕ → ℕ → State → List Check → List Check
-writable first refusal m s rest = missing first gives refusal ∷ noWriting s m gives MX-NRW ∷ rest
+writable first refusal m s rest = missing first gives refusal on 1 ∷ noWriting s m gives MX-NRW on 1 ∷ rest
 
 -- 24 and 25: model m with this label is there, and it has access; and then the rest
 abbrev pub accessed : ℕ → ℕ → State → List Check → List Check
-accessed label m s rest = missing label gives MO-NEXS ∷ noAccess s m gives MX-NDEF ∷ rest
+accessed label m s rest = missing label gives MO-NEXS on 1 ∷ noAccess s m gives MX-NDEF on 1 ∷ rest
 
 -- ---- those that ask for an open session
 
 -- 4, 5 and 6: no transaction is open, and then the rest
 abbrev pub untransacted : State → List Check → List Check
-untransacted s rest = under s ABORTED gives TR-EAB ∷ not (under s NONE) gives TR-EXS ∷ rest
+untransacted s rest = under s ABORTED gives TR-EAB on 0 ∷ not (under s NONE) gives TR-EXS on 0 ∷ rest
 
 -- 7 and 8
 abbrev pub settling : State → List Check
-settling s = under s ABORTED gives TR-EAB ∷ under s NONE gives TR-NEXS ∷ under s RO gives TR-NRW ∷ []
+settling s = under s ABORTED gives TR-EAB on 0 ∷ under s NONE gives TR-NEXS on 0 ∷ under s RO gives TR-NRW on 0 ∷ []
 
 abbrev pub sessionRow : InSession → ℕ → ℕ → State → Row
 sessionRow inSession.CloseSession a b s = [] then does 0 closedState (ifWriting s Drop)
 sessionRow inSession.OpenRepository a b s =
-    noRepository a gives RP-NEXS ∷ has (s .repositories) a gives RP-OPN ∷ []
+    noRepository a gives RP-NEXS on 1 ∷ has (s .repositories) a gives RP-OPN on 1 ∷ []
     then does 0 (withRepositories s (insert (s .repositories) a)) Stay
 sessionRow inSession.CloseRepository a b s =
-    untransacted s (noRepository a gives RP-NEXS ∷ notOpened s a gives RP-NOPN ∷ [])
+    untransacted s (noRepository a gives RP-NEXS on 1 ∷ notOpened s a gives RP-NOPN on 1 ∷ [])
     then does 0 (withRepositories s (remove (s .repositories) a)) Stay
 sessionRow inSession.StartReadWrite a b s = untransacted s [] then does 0 (withTransaction s RW) Stay
 sessionRow inSession.StartReadOnly a b s = untransacted s [] then does 0 (withTransaction s RO) Stay
 sessionRow inSession.Commit a b s = settling s then does 0 s Commit
 sessionRow inSession.Abort a b s = settling s then does 0 (withAccess s none none) Drop
 sessionRow inSession.EndCommit a b s =
-    under s ABORTED gives TR-EAB ∷ under s NONE gives TR-NEXS ∷ [] then does 0 (ended s NONE) (ifWriting s Commit)
-sessionRow inSession.EndAbort a b s = under s NONE gives TR-NEXS ∷ [] then does 0 (ended s NONE) (ifWriting s Drop)
+    under s ABORTED gives TR-EAB on 0 ∷ under s NONE gives TR-NEXS on 0 ∷ [] then does 0 (ended s NONE) (ifWriting s Commit)
+sessionRow inSession.EndAbort a b s = under s NONE gives TR-NEXS on 0 ∷ [] then does 0 (ended s NONE) (ifWriting s Drop)
 sessionRow inSession.StartRecording a b s = [] then does 1 (withRecording s 1) Stay
 sessionRow inSession.StopRecording a b s = [] then does (s .recording) (withRecording s 0) Stay
 sessionRow inSession.StorageFault a b s =
-    under s ABORTED gives TR-EAB ∷ under s NONE gives TR-NAVL ∷ [] then does 0 (ended s ABORTED) (ifWriting s Drop)
+    under s ABORTED gives TR-EAB on 0 ∷ under s NONE gives TR-NAVL on 0 ∷ [] then does 0 (ended s ABORTED) (ifWriting s Drop)
 sessionRow inSession.IsSubtype a b s =
-    not (isType a) gives ED-NDEF ∷ not (isType b) gives ED-NDEF ∷ typesDiffer a b gives ED-NDEQ ∷ []
+    not (isType a) gives ED-NDEF on 1 ∷ not (isType b) gives ED-NDEF on 2 ∷ typesDiffer a b gives ED-NDEQ on 2 ∷ []
     then does (number (subtype a b)) s Stay
 
 -- ---- those that ask for a transaction
@@ -90,19 +91,19 @@ sessionRow inSession.IsSubtype a b s =
 -- 42 and 43, and then the rest
 abbrev pub reading : ℕ → ℕ → State → List ℕ → List Check → List Check
 reading header k s w rest =
-    missing header gives EI-NEXS
-    ∷ away s (labelAt w Model (modelIn header)) gives RP-NOPN
-    ∷ lacksAttribute header k gives AT-NDEF
+    missing header gives EI-NEXS on 1
+    ∷ away s (labelAt w Model (modelIn header)) gives RP-NOPN on 1
+    ∷ lacksAttribute header k gives AT-NDEF on 2
     ∷ rest
 
 abbrev pub readerRow : Reader → ℕ → ℕ → State → List ℕ → Row
 readerRow reader.ReadOnlyAccess a b s w =
-    inReach (labelAt w Model a) MO-NEXS s (has (s .ro) a gives MX-RO ∷ has (s .rw) a gives MX-RW ∷ [])
+    inReach (labelAt w Model a) MO-NEXS 1 s (has (s .ro) a gives MX-RO on 1 ∷ has (s .rw) a gives MX-RW on 1 ∷ [])
     then does 0 (withAccess s (insert (s .ro) a) (s .rw)) Stay
 readerRow reader.EndAccess a b s w =
     accessed (labelAt w Model a) a s [] then does 0 (withAccess s (remove (s .ro) a) (remove (s .rw) a)) Stay
 readerRow reader.Get a b s w =
-    reading (headerAt w a) b s w (not (isSet w a b) gives VA-NSET ∷ []) then does (valueIn (valueAt w a b)) (woken s (modelAt w a)) Stay
+    reading (headerAt w a) b s w (not (isSet w a b) gives VA-NSET on 2 ∷ []) then does (valueIn (valueAt w a b)) (woken s (modelAt w a)) Stay
 readerRow reader.Test a b s w = reading (headerAt w a) b s w [] then does (number (isSet w a b)) (woken s (modelAt w a)) Stay
 
 -- ---- those that ask for a transaction that writes
@@ -110,49 +111,49 @@ readerRow reader.Test a b s w = reading (headerAt w a) b s w [] then does (numbe
 -- 20 and 30; a taken name has a refusal of its own in each
 abbrev pub creating : Kind → ℕ → ℕ → ℕ → ℕ → State → List ℕ → List Check
 creating kind taken repository schema name s w =
-    noRepository repository gives RP-NEXS
-    ∷ notOpened s repository gives RP-NOPN
-    ∷ not (isSchema schema) gives SD-NDEF
-    ∷ isTaken w kind repository name gives taken
+    noRepository repository gives RP-NEXS on 1
+    ∷ notOpened s repository gives RP-NOPN on 1
+    ∷ not (isSchema schema) gives SD-NDEF on 2
+    ∷ isTaken w kind repository name gives taken on 3
     ∷ []
 
 -- 44 and 45, and then the rest
 abbrev pub writing : ℕ → ℕ → State → List Check → List Check
-writing header k s rest = writable header EI-NEXS (modelIn header) s (lacksAttribute header k gives AT-NDEF ∷ rest)
+writing header k s rest = writable header EI-NEXS (modelIn header) s (lacksAttribute header k gives AT-NDEF on 2 ∷ rest)
 
 -- 44, of R alone: value v in an instance of model m
 abbrev pub referring : Attribute → ℕ → ℕ → List ℕ → List Check
 referring Lacking m v w = []
 referring Whole m v w = []
 referring (Reference target) m v w =
-    missing (headerAt w v) gives VA-NVLD ∷ wrongType (headerAt w v) target gives VT-NVLD ∷ apart w m (modelAt w v) gives MO-NVLD ∷ []
+    missing (headerAt w v) gives VA-NVLD on 3 ∷ wrongType (headerAt w v) target gives VT-NVLD on 3 ∷ apart w m (modelAt w v) gives MO-NVLD on 3 ∷ []
 
 -- MX_NRW is first about the named entry's own model, and then about those that refer to what would go
 abbrev pub writerRow : Writer → ℕ → ℕ → ℕ → State → List ℕ → Row
 writerRow writer.CreateModel a b c s w = creating Model MO-DUP a b c s w then created Model (labelOf a b c) s w
 writerRow writer.DeleteModel a b c s w =
-    writable (labelAt w Model a) MO-NEXS a s (heldBack w Model a (s .rw) gives MX-NRW ∷ [])
+    writable (labelAt w Model a) MO-NEXS a s (heldBack w Model a (s .rw) gives MX-NRW on REMAINING ∷ [])
     then does 0 (withAccess s (remove (s .ro) a) (remove (s .rw) a)) (Changed (Gone Model a))
 writerRow writer.ReadWriteAccess a b c s w =
-    inReach (labelAt w Model a) MO-NEXS s (has (s .rw) a gives MX-RW ∷ has (s .ro) a gives MX-RO ∷ [])
+    inReach (labelAt w Model a) MO-NEXS 1 s (has (s .rw) a gives MX-RW on 1 ∷ has (s .ro) a gives MX-RO on 1 ∷ [])
     then does 0 (withAccess s (s .ro) (insert (s .rw) a)) Stay
 writerRow writer.PromoteModel a b c s w =
-    accessed (labelAt w Model a) a s (has (s .rw) a gives MX-RW ∷ [])
+    accessed (labelAt w Model a) a s (has (s .rw) a gives MX-RW on 1 ∷ [])
     then does 0 (withAccess s (remove (s .ro) a) (insert (s .rw) a)) Stay
 writerRow writer.CreateSchemaInstance a b c s w = creating SchemaInstance SI-DUP a b c s w then created SchemaInstance (labelOf a b c) s w
-writerRow writer.DeleteSchemaInstance a b c s w = inReach (labelAt w SchemaInstance a) SI-NEXS s [] then does 0 s (Changed (Gone SchemaInstance a))
+writerRow writer.DeleteSchemaInstance a b c s w = inReach (labelAt w SchemaInstance a) SI-NEXS 1 s [] then does 0 s (Changed (Gone SchemaInstance a))
 writerRow writer.AddModel a b c s w =
-    inReach (labelAt w SchemaInstance a) SI-NEXS s
-    (inReach (labelAt w Model b) MO-NEXS s (schemasDiffer (labelAt w Model b) (labelAt w SchemaInstance a) gives MO-NDEQ ∷ []))
+    inReach (labelAt w SchemaInstance a) SI-NEXS 1 s
+    (inReach (labelAt w Model b) MO-NEXS 2 s (schemasDiffer (labelAt w Model b) (labelAt w SchemaInstance a) gives MO-NDEQ on 2 ∷ []))
     then does (sizeOf (insert (setAt w a) b)) s (Changed (Joined a b))
 writerRow writer.RemoveModel a b c s w =
-    inReach (labelAt w SchemaInstance a) SI-NEXS s (missing (labelAt w Model b) gives MO-NEXS ∷ not (has (setAt w a) b) gives MO-NVLD ∷ [])
+    inReach (labelAt w SchemaInstance a) SI-NEXS 1 s (missing (labelAt w Model b) gives MO-NEXS on 2 ∷ not (has (setAt w a) b) gives MO-NVLD on 2 ∷ [])
     then does (sizeOf (remove (setAt w a) b)) s (Changed (Left a b))
 writerRow writer.CreateInstance a b c s w =
-    writable (labelAt w Model a) MO-NEXS a s (not (isType b) gives ED-NDEF ∷ typeForeign b (labelAt w Model a) gives ED-NVLD ∷ [])
+    writable (labelAt w Model a) MO-NEXS a s (not (isType b) gives ED-NDEF on 2 ∷ typeForeign b (labelAt w Model a) gives ED-NVLD on 2 ∷ [])
     then created Instance (headerOf b a 0) s w
 writerRow writer.DeleteInstance a b c s w =
-    writable (headerAt w a) EI-NEXS (modelAt w a) s (heldBack w Instance a (s .rw) gives MX-NRW ∷ []) then does 0 s (Changed (Gone Instance a))
+    writable (headerAt w a) EI-NEXS (modelAt w a) s (heldBack w Instance a (s .rw) gives MX-NRW on REMAINING ∷ []) then does 0 s (Changed (Gone Instance a))
 writerRow writer.Put a b c s w = writing (headerAt w a) b s (referring (attributeOf (typeAt w a) b) (modelAt w a) c w) then does 0 s (Changed (Put a b c))
 writerRow writer.Unset a b c s w = writing (headerAt w a) b s [] then does 0 s (Changed (Unset a b))
 

@@ -7,6 +7,7 @@ use lib.Dec.{lit<}
 use lib.ListN.{length, getD, replicate}
 use Rattle.words.specs.Layout.{words}
 use Rattle.session.specs.declared.state.Session.{Session}
+use Rattle.session.specs.declared.state.Answer.{Answer}
 use Rattle.session.specs.States.{closedState, blankLog, session}
 use Rattle.session.specs.Step.{Outcome, step}
 
@@ -26,6 +27,7 @@ call op a b c = record { op = op; a = a; b = b; c = c % 0x1_0000_0000; small = m
 pub record Answered : Type 0 where
   pub call : Call
   pub refusal : ℕ
+  pub place : ℕ
   pub value : ℕ
 
 -- what stands between two calls
@@ -68,8 +70,11 @@ outcomeBy machine chip q = machine (q .op) (q .a) (q .b) (q .c) (chip .session) 
 abbrev pub left : Outcome → Chip
 left o = record { session = o .answer .session; working = o .working; kept = o .kept }
 
+abbrev pub answered : Call → Answer → Answered
+answered q a = record { call = q; refusal = a .refusal; place = a .place; value = a .value }
+
 abbrev pub answeredBy : Call → Outcome → Answered
-answeredBy q o = record { call = q; refusal = o .answer .refusal; value = o .answer .value }
+answeredBy q o = answered q (o .answer)
 
 -- the chip after these calls, begun with this one, and their history
 unfoldable pub afterBy : Machine → Chip → List Call → Chip

@@ -14,15 +14,15 @@ use Rattle.session.specs.declared.state.State.{State}
 use Rattle.session.specs.declared.state.Event.{Event}
 use Rattle.session.specs.declared.state.Log.{Log}
 use Rattle.session.specs.declared.state.Session.{Session}
-use Rattle.session.specs.Refusals.{FN-NAVL, NO-ROOM}
+use Rattle.session.specs.Refusals.{FN-NAVL, NO-ROOM, REMAINING}
 use Rattle.session.specs.States.{NONE, RO, RW, ABORTED, isOpen, under, places, blankEvent}
 
--- an event may have any number, and any refusal but SY_ERR; a place that is not used is blank
+-- an event may have any number, any refusal but SY_ERR, and any place with it; one that is not used is blank
 abbrev pub soundEvent : Event → Bool
-soundEvent e = leb FN-NAVL (e .refusal) && leb (e .refusal) NO-ROOM
+soundEvent e = leb FN-NAVL (e .refusal) && leb (e .refusal) NO-ROOM && leb (e .place) REMAINING
 
 abbrev pub isBlank : Event → Bool
-isBlank e = eqb (e .op) 0 && eqb (e .refusal) 0
+isBlank e = eqb (e .op) 0 && eqb (e .refusal) 0 && eqb (e .place) 0
 
 abbrev pub soundPlace : ℕ → ℕ → Event → Bool
 soundPlace count i e = cond (ltb i count) (soundEvent e) (isBlank e)

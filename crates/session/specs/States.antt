@@ -9,6 +9,7 @@ use Rattle.session.specs.declared.state.State.{State}
 use Rattle.session.specs.declared.state.Event.{Event}
 use Rattle.session.specs.declared.state.Log.{Log}
 use Rattle.session.specs.declared.state.Session.{Session}
+use Rattle.session.specs.Refusals.{numberIn, placeIn}
 
 -- the transaction
 abbrev pub NONE : ℕ
@@ -65,7 +66,7 @@ abbrev pub places : ℕ
 places = 16
 
 abbrev pub event : ℕ → ℕ → Event
-event op refusal = record { op = op; refusal = refusal }
+event op refusal = record { op = op; refusal = numberIn refusal; place = placeIn refusal; unused = 0 }
 
 abbrev pub blankEvent : Event
 blankEvent = event 0 0
@@ -86,7 +87,7 @@ added l e = cond (ltb (l .count) places) (log (l .count + 1) (set (l .events) (l
 abbrev pub session : State → Log → Session
 session s l = record { state = s; log = l }
 
--- the refusal is recorded (CHIP, events) if the session was open and recording at entry
+-- the refusal is recorded on its place (CHIP, events) if the session was open and recording at entry
 abbrev pub noted : Session → ℕ → ℕ → Session
 noted x op refusal =
     cond (isOpen (x .state) && eqb (x .state .recording) 1)

@@ -7,7 +7,7 @@ use Rattle.session.specs.declared.state.Log.{Log}
 use Rattle.session.specs.declared.state.State.{State}
 use Rattle.session.specs.declared.state.Session.{Session}
 use Rattle.session.specs.declared.state.Answer.{Answer}
-use Rattle.session.specs.Refusals.{SY-ERR, done}
+use Rattle.session.specs.Refusals.{SY-ERR, done, _on_, numberIn, placeIn}
 use Rattle.session.specs.Operations.{operationOf}
 use Rattle.session.specs.States.{isOpen, blankLog, session, noted}
 use Rattle.session.specs.Sound.{sound}
@@ -21,7 +21,7 @@ pub record Outcome : Type 0 where
   pub kept : List ℕ
 
 abbrev pub answer : ℕ → ℕ → Session → Answer
-answer refusal value x = record { refusal = refusal; value = value; session = x }
+answer refusal value x = record { refusal = numberIn refusal; place = placeIn refusal; value = value; session = x }
 
 abbrev pub outcome : Answer → List ℕ → List ℕ → Outcome
 outcome a w k = record { answer = a; working = w; kept = k }
@@ -48,4 +48,4 @@ core op a b c x w k = finished op x w k (performed (operationOf op) a b c (x .st
 
 -- SY_ERR comes before all else (CHIP, before every call), and gives the session back as it came
 unfoldable pub step : ℕ → ℕ → ℕ → ℕ → Session → List ℕ → List ℕ → Outcome
-step op a b c x w k = cond (sound x w k) (core op a b c x w k) (outcome (answer SY-ERR 0 x) w k)
+step op a b c x w k = cond (sound x w k) (core op a b c x w k) (outcome (answer (SY-ERR on 0) 0 x) w k)

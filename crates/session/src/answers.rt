@@ -1,12 +1,14 @@
 // The one place that builds answers.
 ghost use mathlib.Core.Path.{_≡_};
 ghost use mathlib.Core.Logic.{_⊎_};
-ghost use Rattle.session.specs.Refusals.{SY-ERR, done};
+ghost use Rattle.session.specs.Refusals.{SY-ERR, done, _on_};
 ghost use Rattle.session.specs.Step.{answer, finishedAnswer};
 ghost use Rattle.session.specs.Quick.Answers.{logOf};
 use crate::events::blank_log;
 use crate::events::noted;
 use crate::refusals;
+use crate::refusals::number_in;
+use crate::refusals::place_in;
 use crate::state::Answer;
 use crate::state::Log;
 use crate::state::Session;
@@ -15,10 +17,11 @@ use crate::state::is_open;
 
 // SY_ERR adds no event: the session goes back as it came.
 pub fn unsound(x: Session) -> Answer
-    ensures { λ r. ⌜ r ≡ answer SY-ERR 0 x ⌝ }
+    ensures { λ r. ⌜ r ≡ answer (SY-ERR on 0) 0 x ⌝ }
 {
     Answer {
-        refusal: refusals::SY_ERR,
+        refusal: refusals::SY_ERR as u16,
+        place: 0,
         value: 0,
         session: x,
     }
@@ -43,7 +46,8 @@ pub fn finished(op: u32, x: Session, refusal: u32, value: u32, state: State) -> 
     ensures { λ r. ⌜ r ≡ finishedAnswer op x refusal value state ⌝ }
 {
     Answer {
-        refusal,
+        refusal: number_in(refusal) as u16,
+        place: place_in(refusal) as u16,
         value,
         session: Session {
             state,

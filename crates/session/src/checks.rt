@@ -3,6 +3,7 @@
 // them all.
 ghost use mathlib.Core.Path.{_≡_};
 ghost use mathlib.Core.Bool.{cond};
+ghost use Rattle.session.specs.Refusals.{_on_};
 ghost use Rattle.session.specs.Checks.{firstOf};
 ghost use Rattle.session.specs.Rows.{inReach, writable as writableOf, accessed as accessedOf};
 ghost use Rattle.session.specs.Quick.Rows.{known};
@@ -11,34 +12,38 @@ use crate::conditions::missing;
 use crate::conditions::no_access;
 use crate::conditions::no_writing;
 use crate::refusals;
+use crate::refusals::on;
 use crate::state::State;
 
-// The refusal if its condition holds, else what the rest gives.
-pub fn first(condition: bool, refusal: u32, rest: u32) -> u32
-    ensures { λ r. ⌜ r ≡ cond condition refusal rest ⌝ }
+// The refusal on its place if its condition holds, else what the rest gives.
+pub fn first(condition: bool, refusal: u8, place: u8, rest: u32) -> u32
+    ensures { λ r. ⌜ r ≡ cond condition (refusal on place) rest ⌝ }
 {
-    if condition { refusal } else { rest }
+    if condition { on(refusal, place) } else { rest }
 }
 
-// The entry with this first word is there, or this refusal is given, and its repository is open; and then the rest.
-pub fn in_reach(label: u64, refusal: u32, s: State, rest: u32) -> u32
-    ensures { λ r. ⌜ r ≡ firstOf (inReach label refusal s (known rest)) ⌝ }
+// The entry with this first word is there, or this refusal is given, and its repository is open; and then the rest. The
+// argument at this place names it.
+pub fn in_reach(label: u64, refusal: u8, place: u8, s: State, rest: u32) -> u32
+    ensures { λ r. ⌜ r ≡ firstOf (inReach label refusal place s (known rest)) ⌝ }
 {
     first(
         missing(label),
         refusal,
-        first(away(s, label), refusals::RP_NOPN, rest),
+        place,
+        first(away(s, label), refusals::RP_NOPN, place, rest),
     )
 }
 
 // The entry with this first word is there, or this refusal is given, and model m has read-write access; and then the rest.
-pub fn writable(entry: u64, refusal: u32, m: u32, s: State, rest: u32) -> u32
+pub fn writable(entry: u64, refusal: u8, m: u32, s: State, rest: u32) -> u32
     ensures { λ r. ⌜ r ≡ firstOf (writableOf entry refusal m s (known rest)) ⌝ }
 {
     first(
         missing(entry),
         refusal,
-        first(no_writing(s, m), refusals::MX_NRW, rest),
+        1,
+        first(no_writing(s, m), refusals::MX_NRW, 1, rest),
     )
 }
 
@@ -49,6 +54,7 @@ pub fn accessed(label: u64, m: u32, s: State, rest: u32) -> u32
     first(
         missing(label),
         refusals::MO_NEXS,
-        first(no_access(s, m), refusals::MX_NDEF, rest),
+        1,
+        first(no_access(s, m), refusals::MX_NDEF, 1, rest),
     )
 }

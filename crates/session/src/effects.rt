@@ -3,6 +3,8 @@
 ghost use mathlib.Core.Path.{_≡_};
 ghost use Rattle.session.specs.Effects.{does, refuses, unlessRefused, number, ifWriting, created as createdIn};
 use crate::refusals;
+use crate::refusals::on;
+use crate::refusals::room_of;
 use crate::state::RW;
 use crate::state::State;
 use crate::state::under;
@@ -87,7 +89,7 @@ pub fn created(kind: Kind, first: u64, s: State, w: &[u64]) -> Effect
     if n < count(kind) {
         return done(n, s, Tables::Changed(Change::Made(kind, n, first)));
     }
-    refused(refusals::NO_ROOM, s)
+    refused(on(refusals::NO_ROOM, room_of(kind)), s)
 }
 
 // The effect, unless a check refuses. An effect is only said, not written, so it is said whether or not a check refuses.

@@ -1,6 +1,8 @@
 // The log of events. This is the one place that adds an event.
 ghost use mathlib.Core.Path.{_≡_};
 ghost use Rattle.session.specs.States.{log, added as addedTo, blankLog, session, noted as notedIn};
+use crate::refusals::number_in;
+use crate::refusals::place_in;
 use crate::state::Event;
 use crate::state::Log;
 use crate::state::State;
@@ -17,7 +19,12 @@ pub fn blank_log() -> Log
 {
     Log {
         count: 0,
-        events: [Event { op: 0, refusal: 0 }; 16],
+        events: [Event {
+            op: 0,
+            refusal: 0,
+            place: 0,
+            unused: 0,
+        }; 16],
     }
 }
 
@@ -49,7 +56,16 @@ pub fn noted(l: Log, s: State, op: u32, refusal: u32) -> Log
 {
     if is_open(s) & (s.recording == 1) {
         let before = l.events;
-        return added(before, l.count, Event { op, refusal });
+        return added(
+            before,
+            l.count,
+            Event {
+                op,
+                refusal: number_in(refusal),
+                place: place_in(refusal),
+                unused: 0,
+            },
+        );
     }
     l
 }

@@ -6,6 +6,7 @@ ghost use Rattle.session.specs.Quick.Rows.{known};
 use crate::checks::first;
 use crate::operations::Operation;
 use crate::refusals;
+use crate::refusals::on;
 use crate::state::ABORTED;
 use crate::state::NONE;
 use crate::state::RO;
@@ -20,10 +21,12 @@ fn transacted(s: State, rest: u32) -> u32
     first(
         !is_open(s),
         refusals::SS_NOPN,
+        0,
         first(
             under(s, ABORTED),
             refusals::TR_EAB,
-            first(under(s, NONE), refusals::TR_NAVL, rest),
+            0,
+            first(under(s, NONE), refusals::TR_NAVL, 0, rest),
         ),
     )
 }
@@ -32,13 +35,13 @@ pub fn gate(op: Operation, s: State) -> u32
     ensures { λ r. ⌜ r ≡ firstOf (gateOf op s) ⌝ }
 {
     match op {
-        Operation::Unlisted => refusals::FN_NAVL,
-        Operation::Opening => first(is_open(s), refusals::SS_OPN, refusals::DONE),
-        Operation::InSession(_) => first(!is_open(s), refusals::SS_NOPN, refusals::DONE),
+        Operation::Unlisted => on(refusals::FN_NAVL, 0),
+        Operation::Opening => first(is_open(s), refusals::SS_OPN, 0, refusals::DONE),
+        Operation::InSession(_) => first(!is_open(s), refusals::SS_NOPN, 0, refusals::DONE),
         Operation::Reader(_) => transacted(s, refusals::DONE),
         Operation::Writer(_) => transacted(
             s,
-            first(under(s, RO), refusals::TR_NRW, refusals::DONE),
+            first(under(s, RO), refusals::TR_NRW, 0, refusals::DONE),
         ),
     }
 }

@@ -41,7 +41,8 @@ fn open_repository(a: u32, s: State) -> Effect
         first(
             no_repository(a),
             refusals::RP_NEXS,
-            first(has(s.repositories, a), refusals::RP_OPN, refusals::DONE),
+            1,
+            first(has(s.repositories, a), refusals::RP_OPN, 1, refusals::DONE),
         ),
         s,
         moved(with_repositories(s, with(s.repositories, a))),
@@ -55,7 +56,8 @@ fn untransacted(s: State, rest: u32) -> u32
     first(
         under(s, ABORTED),
         refusals::TR_EAB,
-        first(!under(s, NONE), refusals::TR_EXS, rest),
+        0,
+        first(!under(s, NONE), refusals::TR_EXS, 0, rest),
     )
 }
 
@@ -68,7 +70,8 @@ fn close_repository(a: u32, s: State) -> Effect
             first(
                 no_repository(a),
                 refusals::RP_NEXS,
-                first(not_opened(s, a), refusals::RP_NOPN, refusals::DONE),
+                1,
+                first(not_opened(s, a), refusals::RP_NOPN, 1, refusals::DONE),
             ),
         ),
         s,
@@ -103,10 +106,12 @@ fn settling(s: State) -> u32
     first(
         under(s, ABORTED),
         refusals::TR_EAB,
+        0,
         first(
             under(s, NONE),
             refusals::TR_NEXS,
-            first(under(s, RO), refusals::TR_NRW, refusals::DONE),
+            0,
+            first(under(s, RO), refusals::TR_NRW, 0, refusals::DONE),
         ),
     )
 }
@@ -134,7 +139,8 @@ fn end_commit(s: State) -> Effect
         first(
             under(s, ABORTED),
             refusals::TR_EAB,
-            first(under(s, NONE), refusals::TR_NEXS, refusals::DONE),
+            0,
+            first(under(s, NONE), refusals::TR_NEXS, 0, refusals::DONE),
         ),
         s,
         done(0, ended(s, NONE), if_writing(s, Tables::Commit)),
@@ -146,7 +152,7 @@ fn end_abort(s: State) -> Effect
     ensures { λ r. ⌜ r ≡ rowDone s (sessionRow InSession.EndAbort 0 0 s) ⌝ }
 {
     unless(
-        first(under(s, NONE), refusals::TR_NEXS, refusals::DONE),
+        first(under(s, NONE), refusals::TR_NEXS, 0, refusals::DONE),
         s,
         done(0, ended(s, NONE), if_writing(s, Tables::Drop)),
     )
@@ -159,7 +165,8 @@ fn storage_fault(s: State) -> Effect
         first(
             under(s, ABORTED),
             refusals::TR_EAB,
-            first(under(s, NONE), refusals::TR_NAVL, refusals::DONE),
+            0,
+            first(under(s, NONE), refusals::TR_NAVL, 0, refusals::DONE),
         ),
         s,
         done(0, ended(s, ABORTED), if_writing(s, Tables::Drop)),
@@ -173,10 +180,12 @@ fn is_subtype(a: u32, b: u32, s: State) -> Effect
         first(
             no_type(a),
             refusals::ED_NDEF,
+            1,
             first(
                 no_type(b),
                 refusals::ED_NDEF,
-                first(types_differ(a, b), refusals::ED_NDEQ, refusals::DONE),
+                2,
+                first(types_differ(a, b), refusals::ED_NDEQ, 2, refusals::DONE),
             ),
         ),
         s,

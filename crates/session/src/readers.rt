@@ -38,11 +38,13 @@ fn read_only_access(a: u32, s: State, w: &[u64]) -> Effect
         in_reach(
             label_at(w, Kind::Model, a),
             refusals::MO_NEXS,
+            1,
             s,
             first(
                 has(s.ro, a),
                 refusals::MX_RO,
-                first(has(s.rw, a), refusals::MX_RW, refusals::DONE),
+                1,
+                first(has(s.rw, a), refusals::MX_RW, 1, refusals::DONE),
             ),
         ),
         s,
@@ -67,10 +69,12 @@ fn reading(header: u64, k: u32, s: State, w: &[u64], rest: u32) -> u32
     first(
         missing(header),
         refusals::EI_NEXS,
+        1,
         first(
             away(s, label_at(w, Kind::Model, model_in(header))),
             refusals::RP_NOPN,
-            first(lacks_attribute(header, k), refusals::AT_NDEF, rest),
+            1,
+            first(lacks_attribute(header, k), refusals::AT_NDEF, 2, rest),
         ),
     )
 }
@@ -85,7 +89,7 @@ fn get(i: u32, k: u32, s: State, w: &[u64]) -> Effect
             k,
             s,
             w,
-            first(!is_flagged(header, k), refusals::VA_NSET, refusals::DONE),
+            first(!is_flagged(header, k), refusals::VA_NSET, 2, refusals::DONE),
         ),
         s,
         done(

@@ -30,13 +30,15 @@ use words::sets::with;
 fn sound_event(e: Event) -> bool
     ensures { λ r. ⌜ r ≡ soundEvent e ⌝ }
 {
-    (refusals::FN_NAVL <= e.refusal) & (e.refusal <= refusals::NO_ROOM)
+    (refusals::FN_NAVL <= e.refusal)
+        & (e.refusal <= refusals::NO_ROOM)
+        & (e.place <= refusals::REMAINING)
 }
 
 fn is_blank(e: Event) -> bool
     ensures { λ r. ⌜ r ≡ isBlank e ⌝ }
 {
-    (e.op == 0) & (e.refusal == 0)
+    (e.op == 0) & (e.refusal == 0) & (e.place == 0)
 }
 
 // The first `count` places hold events, the others are blank.

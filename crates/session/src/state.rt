@@ -26,11 +26,14 @@ pub struct State {
     pub transaction: u32,
 }
 
-// A refusal and the operation that it was given to.
+// A refusal, its place and the operation that it was given to. The last two bytes carry nothing: they have a name because
+// the compiler copies structs without a hole in few moves, and others field by field.
 #[repr(C)]
 pub struct Event {
     pub op: u32,
-    pub refusal: u32,
+    pub refusal: u8,
+    pub place: u8,
+    pub unused: u16,
 }
 
 // The events that are recorded, oldest first: the first `count` places.
@@ -49,7 +52,8 @@ pub struct Session {
 
 #[repr(C)]
 pub struct Answer {
-    pub refusal: u32,
+    pub refusal: u16,
+    pub place: u16,
     pub value: u32,
     pub session: Session,
 }

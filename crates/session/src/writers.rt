@@ -50,7 +50,7 @@ use words::sets::without;
 // Of a model and of a schema instance; `taken` is the refusal for a name that the repository has.
 fn creating(
     kind: Kind,
-    taken: u32,
+    taken: u8,
     repository: u32,
     schema: u32,
     name: u32,
@@ -62,13 +62,21 @@ fn creating(
     first(
         no_repository(repository),
         refusals::RP_NEXS,
+        1,
         first(
             not_opened(s, repository),
             refusals::RP_NOPN,
+            1,
             first(
                 !is_schema(schema),
                 refusals::SD_NDEF,
-                first(is_taken(w, kind, repository, name), taken, refusals::DONE),
+                2,
+                first(
+                    is_taken(w, kind, repository, name),
+                    taken,
+                    3,
+                    refusals::DONE,
+                ),
             ),
         ),
     )
@@ -96,6 +104,7 @@ fn delete_model(a: u32, s: State, w: &[u64]) -> Effect
             first(
                 held_back(w, Kind::Model, a, s.rw),
                 refusals::MX_NRW,
+                refusals::REMAINING,
                 refusals::DONE,
             ),
         ),
@@ -114,11 +123,13 @@ fn read_write_access(a: u32, s: State, w: &[u64]) -> Effect
         in_reach(
             label_at(w, Kind::Model, a),
             refusals::MO_NEXS,
+            1,
             s,
             first(
                 has(s.rw, a),
                 refusals::MX_RW,
-                first(has(s.ro, a), refusals::MX_RO, refusals::DONE),
+                1,
+                first(has(s.ro, a), refusals::MX_RO, 1, refusals::DONE),
             ),
         ),
         s,
@@ -135,7 +146,7 @@ fn promote_model(a: u32, s: State, w: &[u64]) -> Effect
             label_at(w, Kind::Model, a),
             a,
             s,
-            first(has(s.rw, a), refusals::MX_RW, refusals::DONE),
+            first(has(s.rw, a), refusals::MX_RW, 1, refusals::DONE),
         ),
         s,
         moved(with_access(s, without(s.ro, a), with(s.rw, a))),
@@ -159,6 +170,7 @@ fn delete_schema_instance(a: u32, s: State, w: &[u64]) -> Effect
         in_reach(
             label_at(w, Kind::SchemaInstance, a),
             refusals::SI_NEXS,
+            1,
             s,
             refusals::DONE,
         ),
@@ -183,12 +195,19 @@ fn add_model(a: u32, b: u32, s: State, w: &[u64]) -> Effect
         in_reach(
             it,
             refusals::SI_NEXS,
+            1,
             s,
             in_reach(
                 model,
                 refusals::MO_NEXS,
+                2,
                 s,
-                first(schemas_differ(model, it), refusals::MO_NDEQ, refusals::DONE),
+                first(
+                    schemas_differ(model, it),
+                    refusals::MO_NDEQ,
+                    2,
+                    refusals::DONE,
+                ),
             ),
         ),
         s,
@@ -204,11 +223,13 @@ fn remove_model(a: u32, b: u32, s: State, w: &[u64]) -> Effect
         in_reach(
             label_at(w, Kind::SchemaInstance, a),
             refusals::SI_NEXS,
+            1,
             s,
             first(
                 missing(label_at(w, Kind::Model, b)),
                 refusals::MO_NEXS,
-                first(!has(set, b), refusals::MO_NVLD, refusals::DONE),
+                2,
+                first(!has(set, b), refusals::MO_NVLD, 2, refusals::DONE),
             ),
         ),
         s,
@@ -229,7 +250,8 @@ fn create_instance(a: u32, b: u32, s: State, w: &[u64]) -> Effect
             first(
                 no_type(b),
                 refusals::ED_NDEF,
-                first(type_foreign(b, model), refusals::ED_NVLD, refusals::DONE),
+                2,
+                first(type_foreign(b, model), refusals::ED_NVLD, 2, refusals::DONE),
             ),
         ),
         s,
@@ -250,6 +272,7 @@ fn delete_instance(a: u32, s: State, w: &[u64]) -> Effect
             first(
                 held_back(w, Kind::Instance, a, s.rw),
                 refusals::MX_NRW,
+                refusals::REMAINING,
                 refusals::DONE,
             ),
         ),
@@ -267,7 +290,7 @@ fn writing(header: u64, k: u32, s: State, rest: u32) -> u32
         refusals::EI_NEXS,
         model_in(header),
         s,
-        first(lacks_attribute(header, k), refusals::AT_NDEF, rest),
+        first(lacks_attribute(header, k), refusals::AT_NDEF, 2, rest),
     )
 }
 
@@ -279,10 +302,17 @@ fn reference(target: u32, m: u32, v: u32, w: &[u64]) -> u32
     first(
         missing(it),
         refusals::VA_NVLD,
+        3,
         first(
             wrong_type(it, target),
             refusals::VT_NVLD,
-            first(apart(w, m, model_in(it)), refusals::MO_NVLD, refusals::DONE),
+            3,
+            first(
+                apart(w, m, model_in(it)),
+                refusals::MO_NVLD,
+                3,
+                refusals::DONE,
+            ),
         ),
     )
 }

@@ -9,7 +9,7 @@ use Rattle.session.specs.declared.state.Session.{Session}
 use Rattle.session.specs.Refusals.{done}
 use Rattle.session.specs.Step.{Outcome, outcome, step}
 use Rattle.session.specs.Runs.{Call, Answered, Chip, left, answeredBy, outcomeOf, afterBy, historyBy, after, history}
-use Rattle.promises.specs.Refusal.{LeftAlone, refusal-leaves-alone}
+use Rattle.promises.specs.Refusal.{LeftAlone, refusal-leaves-alone, done-names-no-place}
 use Rattle.promises.specs.Stays.{soundness-stays}
 use Rattle.promises.specs.Reached.{SoundChip}
 use Rattle.promises.specs.Beyond.{BeyondKept, never-written, AlikeChips, AlikeLeft, alike-outcomes}
@@ -49,6 +49,10 @@ module _ (q : Call) (chip : Chip) (o : Outcome) (c : Called q chip o) where
   -- **A refusal leaves all but the one event.**
   pub code-refusal : (o .answer .refusal ≡ done → ⊥) → LeftAlone (q .op) (chip .session) (chip .working) (chip .kept) o
   code-refusal = rw (as-step q chip o c) (refusal-leaves-alone (q .op) (q .a) (q .b) (q .c) (chip .session) (chip .working) (chip .kept))
+
+  -- **What is done names no place.**
+  pub code-no-place : o .answer .refusal ≡ done → o .answer .place ≡ 0
+  code-no-place = rw (as-step q chip o c) (done-names-no-place (q .op) (q .a) (q .b) (q .c) (chip .session) (chip .working) (chip .kept))
 
   -- **A sound chip is left sound.**
   pub code-sound : SoundChip chip → SoundChip (left o)

@@ -65,6 +65,10 @@ use Rattle.session.proofs.call.core.Reads as session-call-core
 use Rattle.session.proofs.call.call.Reads as session-call-call
 use Rattle.session.proofs.events.blank_log.Reads as session-events-blank-log
 use Rattle.session.proofs.events.noted.Reads as session-events-noted
+use Rattle.session.proofs.refusals.on.Reads as session-refusals-on
+use Rattle.session.proofs.refusals.number_in.Reads as session-refusals-number-in
+use Rattle.session.proofs.refusals.place_in.Reads as session-refusals-place-in
+use Rattle.session.proofs.refusals.room_of.Reads as session-refusals-room-of
 use Rattle.session.proofs.state.is_open.Reads as session-state-is-open
 use Rattle.session.proofs.state.under.Reads as session-state-under
 use Rattle.session.proofs.state.with_recording.Reads as session-state-with-recording
@@ -274,6 +278,18 @@ session-events-blank-log-one κs a x y s s′ p q = p ∙ sym q
 
 pub session-events-noted-one : (κs : _) (a : _) (x y : _) (s s′ : _) → session-events-noted.Post κs a x s → session-events-noted.Post κs a y s′ → x ≡ y
 session-events-noted-one κs a x y s s′ p q = p ∙ sym q
+
+pub session-refusals-on-one : (κs : _) (a : _) (x y : _) (s s′ : _) → session-refusals-on.Post κs a x s → session-refusals-on.Post κs a y s′ → x ≡ y
+session-refusals-on-one κs a x y s s′ p q = p ∙ sym q
+
+pub session-refusals-number-in-one : (κs : _) (a : _) (x y : _) (s s′ : _) → session-refusals-number-in.Post κs a x s → session-refusals-number-in.Post κs a y s′ → x ≡ y
+session-refusals-number-in-one κs a x y s s′ p q = p ∙ sym q
+
+pub session-refusals-place-in-one : (κs : _) (a : _) (x y : _) (s s′ : _) → session-refusals-place-in.Post κs a x s → session-refusals-place-in.Post κs a y s′ → x ≡ y
+session-refusals-place-in-one κs a x y s s′ p q = p ∙ sym q
+
+pub session-refusals-room-of-one : (κs : _) (a : _) (x y : _) (s s′ : _) → session-refusals-room-of.Post κs a x s → session-refusals-room-of.Post κs a y s′ → x ≡ y
+session-refusals-room-of-one κs a x y s s′ p q = p ∙ sym q
 
 pub session-state-is-open-one : (κs : _) (a : _) (x y : _) (s s′ : _) → session-state-is-open.Post κs a x s → session-state-is-open.Post κs a y s′ → x ≡ y
 session-state-is-open-one κs a x y s s′ p q = p ∙ sym q

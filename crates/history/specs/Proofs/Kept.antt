@@ -54,10 +54,10 @@ record Both (w k : List ℕ) (x : Answered) (h : List Answered) : Type 0 where
 module _ (w k : List ℕ) (hw : SoundTable w) (hk : SoundTable k) (h : List Answered)
     (tw : Told (wordOf w) (remainingIf h false)) (tk : Told (wordOf k) (remainingIf h true)) where
   -- a call that is refused is struck out
-  struck : (q : Call) (r : ℕ) → Refusing r → Both w k (record { call = q; refusal = r; value = 0 }) h
+  struck : (x : Answered) → (x .refusal ≡ done → ⊥) → Both w k x h
   unfolding remainingIf
-  struck q r f =
-      let no : eqb r done ≡ false = ne-eqb r done (λ e. omega arith) in
+  struck x f =
+      let no : eqb (x .refusal) done ≡ false = ne-eqb (x .refusal) done f in
       record { working = rw no tw; kept = rw no tk }
 
   module _ (x : Answered) (was-done : x .refusal ≡ done) (fits : (kind : Kind) → x .call .op ≡ creationOf kind → Asked kind (wordAsked kind (x .call)) (x .call)) where
@@ -100,7 +100,7 @@ module _ (q : Call) (chip : Chip) (h : List Answered) (good : SoundChip chip) (w
 
   by-way : (o : Outcome) → Way (q .op) (q .a) (q .b) (q .c) (chip .session) (chip .working) (chip .kept) o → Both (o .working) (o .kept) (answeredBy q o) h
   by-way o (unsound u) = clash _ good u
-  by-way o (refusing r s f) = struck (chip .working) (chip .kept) (facts .tables .working) (facts .tables .kept) h (w .working) (w .kept) q r f
+  by-way o (refusing r s f) = struck (chip .working) (chip .kept) (facts .tables .working) (facts .tables .kept) h (w .working) (w .kept) _ (λ e. omega (arith, e, f .from))
   by-way o (doing s p e) =
       let clear = passed (operationOf (q .op)) (q .a) (q .b) (q .c) (chip .session .state) (chip .working) p in
       spoken (chip .working) (chip .kept) (facts .tables .working) (facts .tables .kept) h (w .working) (w .kept) (doneBy q _) refl

@@ -18,7 +18,7 @@ use Rattle.session.specs.declared.operations.Operation.{Operation}
 use Rattle.session.specs.declared.operations.Operation.the-variants as operation
 use Rattle.session.specs.declared.state.State.{State}
 use Rattle.session.specs.declared.effects.Effect.{Effect}
-use Rattle.session.specs.Refusals.{NO-ROOM, done}
+use Rattle.session.specs.Refusals.{NO-ROOM, done, numberIn}
 use Rattle.session.specs.Operations.{operationOf}
 use Rattle.session.specs.Effects.{created}
 use Rattle.session.specs.Checks.{Check, firstOf}
@@ -45,18 +45,18 @@ last-below Instance = omega arith
 -- ---- no check of a creation refuses with NO_ROOM
 
 other : Check → Bool
-other check = not (eqb (check .refusal) NO-ROOM)
+other check = not (eqb (numberIn (check .refusal)) NO-ROOM)
 
-never : (l : List Check) → allIn other l ≡ true → firstOf l ≡ NO-ROOM → ⊥
+never : (l : List Check) → allIn other l ≡ true → numberIn (firstOf l) ≡ NO-ROOM → ⊥
 unfolding firstOf allIn other
 never [] h e = omega (arith, e)
 never (check ∷ l) h e = by-condition (check .condition) (λ q. never l (and-right (other check) (allIn other l) h) q) e
   where
-    by-condition : (b : Bool) → (firstOf l ≡ NO-ROOM → ⊥) → cond b (check .refusal) (firstOf l) ≡ NO-ROOM → ⊥
-    by-condition true later q = clash (not (eqb (check .refusal) NO-ROOM)) (and-left (other check) (allIn other l) h) (rw (eq-eqb (check .refusal) NO-ROOM q))
+    by-condition : (b : Bool) → (numberIn (firstOf l) ≡ NO-ROOM → ⊥) → numberIn (cond b (check .refusal) (firstOf l)) ≡ NO-ROOM → ⊥
+    by-condition true later q = clash (other check) (and-left (other check) (allIn other l) h) (rw (eq-eqb (numberIn (check .refusal)) NO-ROOM q))
     by-condition false later q = later q
 
-no-check : (kind : Kind) (a b c : ℕ) (s : State) (w : List ℕ) → refusalOf (operation.Writer (creator kind)) a b c s w ≡ NO-ROOM → ⊥
+no-check : (kind : Kind) (a b c : ℕ) (s : State) (w : List ℕ) → numberIn (refusalOf (operation.Writer (creator kind)) a b c s w) ≡ NO-ROOM → ⊥
 unfolding refusalOf allIn other
 no-check Model a b c s w e = never _ refl e
 no-check SchemaInstance a b c s w e = never _ refl e
@@ -74,11 +74,11 @@ module _ (begun : Chip) (fresh : Fresh begun) (calls : List Call) where
         ap (λ (o : Operation). effect o (q .a) (q .b) (q .c) (chip .session .state) (chip .working)) (ap operationOf (h .operation) ∙ creation-is kind)
         ∙ creation-told kind (q .a) (q .b) (q .c) (chip .session .state) (chip .working)
 
-    refuses : outcomeOf (after begun calls) q .answer .refusal ≡ created kind (firstWord kind (q .a) (q .b) (q .c)) (chip .session .state) (chip .working) .refusal
+    refuses : outcomeOf (after begun calls) q .answer .refusal ≡ numberIn (created kind (firstWord kind (q .a) (q .b) (q .c)) (chip .session .state) (chip .working) .refusal)
     unfolding chip
     refuses =
         refusal-told (q .op) (q .a) (q .b) (q .c) (chip .session) (chip .working) (chip .kept) (reached-sound begun fresh calls) (h .passes)
-        ∙ ap (λ (e : Effect). e .refusal) of-kind
+        ∙ ap (λ (e : Effect). numberIn (e .refusal)) of-kind
 
     pub refused-when-full : (outcomeOf (after begun calls) q .answer .refusal ≡ NO-ROOM) ↔ Full kind (remaining (history begun calls))
     unfolding remaining chip
@@ -93,7 +93,7 @@ module _ (begun : Chip) (fresh : Fresh begun) (calls : List Call) where
         let first = firstWord kind (q .a) (q .b) (q .c) in
         let room = has-room kind first (chip .session .state) (chip .working) l in
         record {
-          was-done = refuses ∙ room;
+          was-done = refuses ∙ ap numberIn room;
           number =
               value-told (q .op) (q .a) (q .b) (q .c) (chip .session) (chip .working) (chip .kept) (reached-sound begun fresh calls) (h .passes) (ap (λ (e : Effect). e .refusal) of-kind ∙ room)
               ∙ ap (λ (e : Effect). e .value) of-kind

@@ -139,7 +139,7 @@ told s = record {
 
 -- a call that is done, with this value; and as one of another number
 abbrev pub doneBy : Call → ℕ → Answered
-doneBy q value = record { call = q; refusal = done; value = value }
+doneBy q value = record { call = q; refusal = done; place = 0; value = value }
 
 abbrev doneAs : Call → ℕ → ℕ → Answered
 doneAs q value op = doneBy (record { op = op; a = q .a; b = q .b; c = q .c; small = q .small }) value

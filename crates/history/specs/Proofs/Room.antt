@@ -17,7 +17,7 @@ use Rattle.session.specs.declared.operations.Operation.the-variants as operatio
 use Rattle.session.specs.declared.state.State.{State}
 use Rattle.session.specs.declared.state.Session.{Session}
 use Rattle.session.specs.declared.effects.Effect.{Effect}
-use Rattle.session.specs.Refusals.{NO-ROOM, done}
+use Rattle.session.specs.Refusals.{NO-ROOM, done, numberIn}
 use Rattle.session.specs.Operations.{operationOf}
 use Rattle.session.specs.Sound.{sound}
 use Rattle.session.specs.Effects.{created}
@@ -42,11 +42,11 @@ module _ (op a b c : ℕ) (x : Session) (w k : List ℕ) (s : sound x w k ≡ tr
   unfolding core
   goes-on = core-on-sound op a b c x w k s ∙ rw p
 
-  pub refusal-told : step op a b c x w k .answer .refusal ≡ effect (operationOf op) a b c (x .state) w .refusal
+  pub refusal-told : step op a b c x w k .answer .refusal ≡ numberIn (effect (operationOf op) a b c (x .state) w .refusal)
   refusal-told = ap (λ (o : Outcome). o .answer .refusal) goes-on ∙ by-cases (effect (operationOf op) a b c (x .state) w)
     where
-      by-cases : (e : Effect) → finished op x w k e .answer .refusal ≡ e .refusal
-      by-cases e = ⊎-elim (λ z. rw (eq-eqb (e .refusal) done z) (sym z)) (λ z. rw (ne-eqb (e .refusal) done z)) (same-or-not (e .refusal) done)
+      by-cases : (e : Effect) → finished op x w k e .answer .refusal ≡ numberIn (e .refusal)
+      by-cases e = ⊎-elim (λ z. rw (eq-eqb (e .refusal) done z) (sym (ap numberIn z))) (λ z. rw (ne-eqb (e .refusal) done z)) (same-or-not (e .refusal) done)
 
   pub value-told : effect (operationOf op) a b c (x .state) w .refusal ≡ done
       → step op a b c x w k .answer .value ≡ effect (operationOf op) a b c (x .state) w .value
@@ -66,25 +66,25 @@ module _ (kind : Kind) (first : ℕ) (s : State) (w : List ℕ) where
   pub takes-free : nextFree w kind < countOf kind → created kind first s w .value ≡ nextFree w kind
   takes-free l = rw (lt-ltb _ _ l)
 
-  pub wants-room : countOf kind ≤ nextFree w kind → created kind first s w .refusal ≡ NO-ROOM
-  wants-room l = rw (le-ltb _ _ l)
+  pub wants-room : countOf kind ≤ nextFree w kind → numberIn (created kind first s w .refusal) ≡ NO-ROOM
+  wants-room l = rw (le-ltb _ _ l) (omega arith)
 
   -- NO_ROOM exactly if every place is live by the history
-  pub room-told : (h : List Answered) → Told (wordOf w) h → (created kind first s w .refusal ≡ NO-ROOM) ↔ Full kind h
+  pub room-told : (h : List Answered) → Told (wordOf w) h → (numberIn (created kind first s w .refusal) ≡ NO-ROOM) ↔ Full kind h
   unfolding Full
   room-told h t = (filled, refused)
     where
-      filled : created kind first s w .refusal ≡ NO-ROOM → (n : ℕ) → n < countOf kind → (q : Call) × Live kind n q h
+      filled : numberIn (created kind first s w .refusal) ≡ NO-ROOM → (n : ℕ) → n < countOf kind → (q : Call) × Live kind n q h
       filled e n l = by-cases (decLt (nextFree w kind) (countOf kind))
         where
           by-cases : Dec (nextFree w kind < countOf kind) → (q : Call) × Live kind n q h
-          by-cases (yes m) = absurd (omega (arith, sym e ∙ has-room m))
+          by-cases (yes m) = absurd (omega (arith, sym e ∙ ap numberIn (has-room m)))
           by-cases (no m) = let x = t .live kind n (next-nowhere w kind (omega arith) n l) in (x .0, is-live kind n (x .0) h (x .1))
 
-      refused : ((n : ℕ) → n < countOf kind → (q : Call) × Live kind n q h) → created kind first s w .refusal ≡ NO-ROOM
+      refused : ((n : ℕ) → n < countOf kind → (q : Call) × Live kind n q h) → numberIn (created kind first s w .refusal) ≡ NO-ROOM
       refused f = by-cases (decLt (nextFree w kind) (countOf kind))
         where
-          by-cases : Dec (nextFree w kind < countOf kind) → created kind first s w .refusal ≡ NO-ROOM
+          by-cases : Dec (nextFree w kind < countOf kind) → numberIn (created kind first s w .refusal) ≡ NO-ROOM
           by-cases (yes m) =
               let x = f (nextFree w kind) m in
               clash _ (next-is-free w kind m) (t .made-by kind _ (x .0) (lives kind _ (x .0) h (x .1)) .entry .live)

@@ -111,7 +111,7 @@ module _ (a b c : ℕ) (x : Session) (w k : List ℕ) (h : Sound x w k) (small :
       by-cases false e = drop-clean (h .tables .agreeing e)
 
   abbrev inRoom : Kind → ℕ → Bool → Effect
-  inRoom kind first room = cond room (does (nextFree w kind) (x .state) (Changed (Made kind (nextFree w kind) first))) (full (x .state))
+  inRoom kind first room = cond room (does (nextFree w kind) (x .state) (Changed (Made kind (nextFree w kind) first))) (full kind (x .state))
 
   creating : (kind : Kind) (first : ℕ) → isFree first ≡ false → shown kind first ≡ first → (kind ≡ Instance → (j : ℕ) → flagged first j ≡ false)
       → created kind first (x .state) w .refusal ≡ done
@@ -165,14 +165,14 @@ module _ (a b c : ℕ) (x : Session) (w k : List ℕ) (h : Sound x w k) (small :
   writer-speaks writer.CreateSchemaInstance p e =
       labelled SchemaInstance refl (λ z. kinds-apart z refl) (is-labelled SchemaInstance SI-DUP a b c (x .state) w p) e
   writer-speaks writer.DeleteSchemaInstance p e =
-      let q = in-reach (labelAt w SchemaInstance a) SI-NEXS (x .state) _ p in
+      let q = in-reach (labelAt w SchemaInstance a) SI-NEXS 1 (x .state) _ p in
       change _ (dissolved-after w good a (below SchemaInstance a (q .there)))
   writer-speaks writer.AddModel p e =
-      let q = in-reach (labelAt w SchemaInstance a) SI-NEXS (x .state) _ p in
-      let m = in-reach (labelAt w Model b) MO-NEXS (x .state) _ (q .clear) in
+      let q = in-reach (labelAt w SchemaInstance a) SI-NEXS 1 (x .state) _ p in
+      let m = in-reach (labelAt w Model b) MO-NEXS 2 (x .state) _ (q .clear) in
       change _ (joined-after w good a (below SchemaInstance a (q .there)) b (below Model b (m .there)))
   writer-speaks writer.RemoveModel p e =
-      let q = in-reach (labelAt w SchemaInstance a) SI-NEXS (x .state) _ p in
+      let q = in-reach (labelAt w SchemaInstance a) SI-NEXS 1 (x .state) _ p in
       change _ (left-after w good a (below SchemaInstance a (q .there)) b)
   writer-speaks writer.CreateInstance p e =
       let q = is-writable (labelAt w Model a) MO-NEXS a (x .state) _ p in

@@ -62,8 +62,8 @@ module _ (x : Session) (w k : List ℕ) (h : Sound x w k) (opened : isOpen (x .s
   creation kind first there e = by-cases (ltb (nextFree w kind) (countOf kind)) refl e
     where
       by-cases : (b : Bool) → ltb (nextFree w kind) (countOf kind) ≡ b
-          → cond b (does (nextFree w kind) (x .state) (Changed (Made kind (nextFree w kind) first))) (full (x .state)) .refusal ≡ done
-          → After x w k (cond b (does (nextFree w kind) (x .state) (Changed (Made kind (nextFree w kind) first))) (full (x .state)))
+          → cond b (does (nextFree w kind) (x .state) (Changed (Made kind (nextFree w kind) first))) (full kind (x .state)) .refusal ≡ done
+          → After x w k (cond b (does (nextFree w kind) (x .state) (Changed (Made kind (nextFree w kind) first))) (full kind (x .state)))
       by-cases true l e = there (ltb-true _ _ l) (next-is-free w kind (ltb-true _ _ l))
       by-cases false l e = absurd (omega arith)
 

@@ -66,7 +66,7 @@ module _ (a b c : ℕ) (x : Session) (w k : List ℕ) (h : Sound x w k) (small :
 
   reader-sound : (o : Reader) → Transacted (x .state) (readerRow o a b (x .state) w .checks) → After x w k (readerRow o a b (x .state) w .effect)
   reader-sound reader.ReadOnlyAccess g =
-      let q = in-reach (labelAt w Model a) MO-NEXS (x .state) _ (g .clear) in
+      let q = in-reach (labelAt w Model a) MO-NEXS 1 (x .state) _ (g .clear) in
       reads x w k h (g .opened) a (may-see a (not-free-live w Model a (q .there)) (q .is-open))
       (going (x .state) (h .session .transaction) (g .not-aborted) (g .not-none)) (clear-first _ _ (clear-rest _ _ (q .clear)))
   reader-sound reader.EndAccess g = access-gone x w k h (g .opened) a w (h .tables) (λ m apart. refl)
@@ -82,7 +82,7 @@ module _ (a b c : ℕ) (x : Session) (w k : List ℕ) (h : Sound x w k) (small :
       let q = is-writable (labelAt w Model a) MO-NEXS a (x .state) _ p in
       model-deleted x w k h opened rw-open a (not-free-live w Model a (q .there))
   writer-sound writer.ReadWriteAccess opened rw-open p e =
-      let q = in-reach (labelAt w Model a) MO-NEXS (x .state) _ p in
+      let q = in-reach (labelAt w Model a) MO-NEXS 1 (x .state) _ p in
       writes x w k h opened a (may-see a (not-free-live w Model a (q .there)) (q .is-open)) rw-open (clear-first _ _ (clear-rest _ _ (q .clear)))
   writer-sound writer.PromoteModel opened rw-open p e =
       let q = is-accessed (labelAt w Model a) a (x .state) _ p in
@@ -91,15 +91,15 @@ module _ (a b c : ℕ) (x : Session) (w k : List ℕ) (h : Sound x w k) (small :
       let q = is-labelled SchemaInstance SI-DUP a b c (x .state) w p in
       group-created x w k h opened rw-open a b c (q .known) (q .lowest) (q .highest) small (q .new) e
   writer-sound writer.DeleteSchemaInstance opened rw-open p e =
-      let q = in-reach (labelAt w SchemaInstance a) SI-NEXS (x .state) _ p in
+      let q = in-reach (labelAt w SchemaInstance a) SI-NEXS 1 (x .state) _ p in
       group-deleted x w k h opened rw-open a (not-free-live w SchemaInstance a (q .there))
   writer-sound writer.AddModel opened rw-open p e =
-      let q = in-reach (labelAt w SchemaInstance a) SI-NEXS (x .state) _ p in
-      let m = in-reach (labelAt w Model b) MO-NEXS (x .state) _ (q .clear) in
+      let q = in-reach (labelAt w SchemaInstance a) SI-NEXS 1 (x .state) _ p in
+      let m = in-reach (labelAt w Model b) MO-NEXS 2 (x .state) _ (q .clear) in
       group-joined x w k h opened rw-open (sizeOf (insert (setAt w a) b)) a b (not-free-live w SchemaInstance a (q .there))
       (and-both (isLive w Model b) (eqb (schemaIn (labelAt w Model b)) (schemaIn (labelAt w SchemaInstance a))) (not-free-live w Model b (m .there)) (not-false _ (clear-first _ _ (m .clear))))
   writer-sound writer.RemoveModel opened rw-open p e =
-      let q = in-reach (labelAt w SchemaInstance a) SI-NEXS (x .state) _ p in
+      let q = in-reach (labelAt w SchemaInstance a) SI-NEXS 1 (x .state) _ p in
       group-left x w k h opened rw-open (sizeOf (remove (setAt w a) b)) a b (not-free-live w SchemaInstance a (q .there))
   writer-sound writer.CreateInstance opened rw-open p e =
       let q = is-writable (labelAt w Model a) MO-NEXS a (x .state) _ p in

@@ -59,9 +59,9 @@ pub record InReach (label : ℕ) (s : State) (rest : List Check) : Type 0 where
   pub is-open : has (s .repositories) (repositoryIn label) ≡ true
   pub clear : Clear rest
 
-pub in-reach : (label refusal : ℕ) (s : State) (rest : List Check) → Clear (inReach label refusal s rest) → InReach label s rest
+pub in-reach : (label refusal place : ℕ) (s : State) (rest : List Check) → Clear (inReach label refusal place s rest) → InReach label s rest
 unfolding Clear
-in-reach label refusal s rest p = record { there = p .0; is-open = not-false _ (p .1 .0); clear = p .1 .1 }
+in-reach label refusal place s rest p = record { there = p .0; is-open = not-false _ (p .1 .0); clear = p .1 .1 }
 
 -- an entry is there, and model m has read-write access
 pub record Writable (first m : ℕ) (s : State) (rest : List Check) : Type 0 where

@@ -121,7 +121,7 @@ halted start next = record { session = start .session; done = start .done; at = 
 
 pub call-stands : (start : Run) (rec : Record) (out w k after-out w′ k′ : List ℕ) (answer : Answer) (next : ℕ)
     → outcome answer w′ k′ ≡ core (rec .op) (rec .a) (rec .b) (rec .c) (start .session) w k
-    → take next after-out ≡ take (start .at) out ++ lineText (start .done + 1) (rec .op) (answer .refusal) (answer .value)
+    → take next after-out ≡ take (start .at) out ++ lineText (start .done + 1) (rec .op) (answer .refusal) (answer .value) (answer .place)
     → here (called start answer next) after-out w′ k′ ≡ afterRecord rec (here start out w k)
 call-stands start rec out w k after-out w′ k′ answer next e t =
     ap (λ (s : List ℕ). record { session = answer .session; working = w′; kept = k′; done = start .done + 1; on = true; text = s }) t

@@ -99,6 +99,10 @@ width-below (suc k) (suc j) n h = below-both k (suc j) n (ltb n 10) refl (λ l. 
 pub width-short : (n : ℕ) → n < 2 ^ 32 → widthOf n ≤ 10
 width-short n h = width-below 20 9 n (omega arith)
 
+-- a u16 at most five
+pub width-shorter : (n : ℕ) → n < 2 ^ 16 → widthOf n ≤ 5
+width-shorter n h = width-below 20 4 n (omega arith)
+
 -- at most twenty bytes
 pub short-number : (n : ℕ) → length (decimal n) ≤ 20
 short-number n = omega (arith, length-decimal n, width-at-most 20 n)

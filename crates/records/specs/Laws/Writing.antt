@@ -11,7 +11,7 @@ use borrow.Author.Tests.{le-leb, lt-leb, leb-true, leb-false}
 use lib.ListN.{length, take, drop, set, getD, length-append, length-take, length-drop, take-append-drop}
 use lib.Seq.{take-suc, drop-cons, append-snoc, set-at, length-take-le, take-at, drop-at, drop-drop, take-take, getD-take, getD-at, sets-eq}
 use Rattle.records.specs.Lines.{digit, decimal, ended, blank, lineFeed, over, written, after, lineText, lastText}
-use Rattle.records.specs.Laws.Decimal.{digits, length-digits, widthOf, decimal-digits, length-decimal, width-at-most, width-short}
+use Rattle.records.specs.Laws.Decimal.{digits, length-digits, widthOf, decimal-digits, length-decimal, width-at-most, width-short, width-shorter}
 
 pub over-nothing : (out : List ℕ) (at : ℕ) → over out at [] ≡ out
 over-nothing out at = rw (add-zero at, append-nil (take at out)) (take-append-drop at out)
@@ -144,27 +144,33 @@ number-ended out at k n stop {mid} e h m =
 length-ended : (n stop : ℕ) → length (ended n stop) ≡ widthOf n + 1
 length-ended n stop = length-append (decimal n) (stop ∷ []) ∙ omega (arith, length-decimal n)
 
-pub length-line : (n op refusal value : ℕ) → length (lineText n op refusal value) ≡ widthOf n + widthOf op + widthOf refusal + widthOf value + 4
-length-line n op refusal value =
-    simp length-append (omega (arith, length-decimal n, length-decimal op, length-decimal refusal, length-decimal value))
+pub length-line : (n op refusal value place : ℕ)
+    → length (lineText n op refusal value place) ≡ widthOf n + widthOf op + widthOf refusal + widthOf value + widthOf place + 5
+length-line n op refusal value place =
+    simp length-append (omega (arith, length-decimal n, length-decimal op, length-decimal refusal, length-decimal value, length-decimal place))
 
 pub length-last : (x y z n : ℕ) → length (lastText x y z n) ≡ widthOf n + 5
 length-last x y z n = omega (arith, length-ended n lineFeed)
 
--- the four fields of a line
-module _ (out : List ℕ) (at n op refusal value : ℕ) (h : at + (widthOf n + widthOf op + widthOf refusal + widthOf value + 4) ≤ length out) where
-  pub line-written : {a b c d : List ℕ} {p q r s : ℕ} → Wrote out at (ended n blank) a p → Wrote a p (ended op blank) b q → Wrote b q (ended refusal blank) c r
-      → Wrote c r (ended value lineFeed) d s → (d ≡ written out at (lineText n op refusal value)) × (s ≡ after out at (lineText n op refusal value))
-  line-written f g i j =
+-- the five fields of a line
+module _ (out : List ℕ) (at n op refusal value place : ℕ)
+    (h : at + (widthOf n + widthOf op + widthOf refusal + widthOf value + widthOf place + 5) ≤ length out) where
+  pub line-written : {a b c d e : List ℕ} {p q r s t : ℕ} → Wrote out at (ended n blank) a p → Wrote a p (ended op blank) b q
+      → Wrote b q (ended refusal blank) c r → Wrote c r (ended value blank) d s → Wrote d s (ended place lineFeed) e t
+      → (e ≡ written out at (lineText n op refusal value place)) × (t ≡ after out at (lineText n op refusal value place))
+  line-written f g i j k =
       let one = length-ended n blank in
       let two = length-append (ended n blank) (ended op blank) in
       let three = length-append (ended n blank ++ ended op blank) (ended refusal blank) in
+      let four = length-append (ended n blank ++ ended op blank ++ ended refusal blank) (ended value blank) in
       let second = length-ended op blank in
       let third = length-ended refusal blank in
-      whole out at (lineText n op refusal value) (omega (arith, length-line n op refusal value))
-      (and-then out at (ended n blank ++ ended op blank ++ ended refusal blank) (ended value lineFeed) (omega arith)
+      let fourth = length-ended value blank in
+      whole out at (lineText n op refusal value place) (omega (arith, length-line n op refusal value place))
+      (and-then out at (ended n blank ++ ended op blank ++ ended refusal blank ++ ended value blank) (ended place lineFeed) (omega arith)
+      (and-then out at (ended n blank ++ ended op blank ++ ended refusal blank) (ended value blank) (omega arith)
       (and-then out at (ended n blank ++ ended op blank) (ended refusal blank) (omega arith)
-      (and-then out at (ended n blank) (ended op blank) (omega arith) f g) i) j)
+      (and-then out at (ended n blank) (ended op blank) (omega arith) f g) i) j) k)
 
 -- the word and the number of a last line
 pub last-written : (out : List ℕ) (at x y z n : ℕ) {a b : List ℕ} {p q : ℕ} → at + (widthOf n + 5) ≤ length out
@@ -175,9 +181,12 @@ last-written out at x y z n h f g =
 
 -- ---- how long the lines are
 
-pub short-line : (n op refusal value : ℕ) → op < 2 ^ 32 → refusal < 2 ^ 32 → value < 2 ^ 32 → length (lineText n op refusal value) ≤ 64
-short-line n op refusal value f g h =
-    omega (arith, length-line n op refusal value, width-at-most 20 n, width-short op f, width-short refusal g, width-short value h)
+-- refusal and place have two bytes each
+pub short-line : (n op refusal value place : ℕ) → op < 2 ^ 32 → refusal < 2 ^ 16 → value < 2 ^ 32 → place < 2 ^ 16
+    → length (lineText n op refusal value place) ≤ 64
+short-line n op refusal value place f g h i =
+    omega
+    (arith, length-line n op refusal value place, width-at-most 20 n, width-short op f, width-shorter refusal g, width-short value h, width-shorter place i)
 
 pub short-last : (x y z n : ℕ) → length (lastText x y z n) ≤ 64
 short-last x y z n = omega (arith, length-last x y z n, width-at-most 20 n)

@@ -1,4 +1,4 @@
--- Which refusals there are: a call on a sound state is refused with a number from 2 to 32, or not at all.
+-- Which refusals there are: a call on a sound state is refused with a number from 2 to 32 on a place from 0 to 7, or not at all.
 use mathlib.Core.Path.{_≡_, refl}
 use mathlib.Core.Bool.{Bool, true, false, cond, _&&_}
 use mathlib.Core.Logic.{_⊎_, inl, inr}
@@ -31,21 +31,29 @@ use Rattle.session.specs.declared.operations.Writer.the-variants as writ
 use Rattle.session.specs.declared.state.State.{State}
 use Rattle.session.specs.declared.effects.Tables.the-variants.{Changed}
 use Rattle.session.specs.declared.effects.Effect.{Effect}
-use Rattle.session.specs.Refusals.{FN-NAVL, NO-ROOM, done}
+use Rattle.session.specs.Refusals.{FN-NAVL, NO-ROOM, REMAINING, done, _on_, numberIn, placeIn, roomOf}
 use Rattle.session.specs.Checks.{Check, firstOf, gate}
 use Rattle.session.specs.Effects.{does, refuses, full, unlessRefused, created}
 use Rattle.session.specs.Rows.{Row, _then_, writing, referring, sessionRow, readerRow, writerRow, rowOf, checks, effect, refusalOf, performed}
 
 -- a refusal that an event can hold: SY_ERR is none
 pub record Refusing (refusal : ℕ) : Type 0 where
-  pub from : FN-NAVL ≤ refusal
-  pub to : refusal ≤ NO-ROOM
+  pub from : FN-NAVL ≤ numberIn refusal
+  pub to : numberIn refusal ≤ NO-ROOM
+  pub place : placeIn refusal ≤ REMAINING
 
 abbrev pub isRefusing : ℕ → Bool
-isRefusing n = leb FN-NAVL n && leb n NO-ROOM
+isRefusing n = leb FN-NAVL (numberIn n) && leb (numberIn n) NO-ROOM && leb (placeIn n) REMAINING
 
 pub refusing-test : (n : ℕ) → Decides (isRefusing n) (Refusing n)
-refusing-test n = restated (both _ _ (at-most FN-NAVL n) (at-most n NO-ROOM)) (λ h. record { from = h .0; to = h .1 }) (λ h. (h .from, h .to))
+refusing-test n =
+    restated (both _ _ (both _ _ (at-most FN-NAVL (numberIn n)) (at-most (numberIn n) NO-ROOM)) (at-most (placeIn n) REMAINING))
+    (λ h. record { from = h .0 .0; to = h .0 .1; place = h .1 })
+    (λ h. ((h .from, h .to), h .place))
+
+-- it is not done
+pub refusing-not-done : (n : ℕ) → Refusing n → n ≡ done → ⊥
+refusing-not-done n h e = omega (arith, e, h .from)
 
 abbrev pub given : Check → Bool
 given c = isRefusing (c .refusal)
@@ -82,7 +90,7 @@ all-clear (check ∷ l) h e = by-condition (check .condition) refl (λ q. all-cl
         → (check .condition ≡ false) × Clear l
     by-condition true p later q =
         let r : Refusing (check .refusal) = refusing-test (check .refusal) .holds (and-left (given check) (allIn given l) h) in
-        absurd (omega (arith, r .from))
+        absurd (refusing-not-done (check .refusal) r q)
     by-condition false p later q = (p, later q)
 
 -- ---- every row refuses with such a number
@@ -100,13 +108,19 @@ pub record Fair (s : State) (row : Row) : Type 0 where
 fair : {s : State} {row : Row} → allIn given (row .checks) ≡ true → row .effect .refusal ≡ done → Fair s row
 fair c e = record { checks = c; effect = inl e }
 
+no-room : (kind : Kind) → Refusing (NO-ROOM on roomOf kind)
+no-room Model = refusing-test (NO-ROOM on roomOf Model) .holds refl
+no-room SchemaInstance = refusing-test (NO-ROOM on roomOf SchemaInstance) .holds refl
+no-room Instance = refusing-test (NO-ROOM on roomOf Instance) .holds refl
+
 -- NO_ROOM is the one refusal of an effect
 created-effect : (kind : Kind) (first : ℕ) (s : State) (w : List ℕ) → (created kind first s w .refusal ≡ done) ⊎ Refused s (created kind first s w)
 created-effect kind first s w = by-room (ltb (nextFree w kind) (countOf kind)) (does (nextFree w kind) s (Changed (Made kind (nextFree w kind) first))) refl
   where
-    by-room : (room : Bool) (made : Effect) → made .refusal ≡ done → (cond room made (full s) .refusal ≡ done) ⊎ Refused s (cond room made (full s))
+    by-room : (room : Bool) (made : Effect) → made .refusal ≡ done
+        → (cond room made (full kind s) .refusal ≡ done) ⊎ Refused s (cond room made (full kind s))
     by-room true made e = inl e
-    by-room false made e = inr (record { range = record { from = omega arith; to = omega arith }; nothing = refl })
+    by-room false made e = inr (record { range = no-room kind; nothing = refl })
 
 creation-fair : (l : List Check) (kind : Kind) (first : ℕ) (s : State) (w : List ℕ) → allIn given l ≡ true → Fair s (l then created kind first s w)
 creation-fair l kind first s w c = record { checks = c; effect = created-effect kind first s w }
@@ -187,4 +201,4 @@ done-or-refused o a b c s w = by-refusal (refusalOf o a b c s w) (refusal-range 
     by-refusal : (r : ℕ) → (r ≡ done) ⊎ Refusing r
         → (unlessRefused r s (effect o a b c s w) .refusal ≡ done) ⊎ Refused s (unlessRefused r s (effect o a b c s w))
     by-refusal r (inl e) = rw e (row-fair o a b c s w .effect)
-    by-refusal r (inr h) = rw (ne-eqb r done (λ e. omega arith)) (inr (record { range = h; nothing = refl }))
+    by-refusal r (inr h) = rw (ne-eqb r done (refusing-not-done r h)) (inr (record { range = h; nothing = refl }))

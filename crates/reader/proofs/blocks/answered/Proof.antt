@@ -18,9 +18,10 @@ returns c =
     let good = earlier .before .before .before .before .before .before .before .before .good in
     let pre = earlier .before .before .before .before .before .before .before .before .pre in
     let n = args .start .done + 1 in
-    let text = lineText n (args .rec .op) (core .result .refusal) (core .result .value) in
+    let text = lineText n (args .rec .op) (core .result .refusal) (core .result .value) (core .result .place) in
     let short : length text ≤ 64 =
-    short-line n (args .rec .op) (core .result .refusal) (core .result .value) (omega (arith, good .1 .0)) (omega (arith, core .ok)) (omega (arith, core .ok)) in
+    short-line n (args .rec .op) (core .result .refusal) (core .result .value) (core .result .place)
+    (omega (arith, good .1 .0)) (omega (arith, core .ok)) (omega (arith, core .ok)) (omega (arith, core .ok)) in
     let more = text-more (args .start) (args .out .now) (line .last .0) (line .result) text (pre .fits) short (line .ensures .0) (line .ensures .1) in
     let fits = at-most (args .start) (args .out .now) (line .last .0) (line .result) text (pre .fits) short (line .ensures .0) (line .ensures .1) in (
       call-stands (args .start) (args .rec) (args .out .now) (args .working .now) (args .kept .now)

@@ -6,8 +6,9 @@ use Rattle.session.proofs.answers.finished.Tie as tie
 
 returns : tie.Need-returns
 returns c =
-    let a = c .before .args in
-    rw (c .log-after .ensures) (answer-built (a .op) (a .refusal) (a .value) (a .x) (a .state) (c .before .pre))
+    let parts = c .before .before in
+    let a = parts .before .args in
+    rw (c .log-after .ensures, parts .number-in .ensures, c .before .place-in .ensures) (answer-built (a .op) (a .refusal) (a .value) (a .x) (a .state) (parts .before .pre))
 
 pub finished-spec : {M : Type 1} → statement M
-finished-spec = tie.close (tie.spec (λ c. search needs) returns)
+finished-spec = tie.close (tie.spec (λ c. search needs) (λ c. search needs) (λ c. search needs) (λ c. search needs) (λ c. search needs) returns)

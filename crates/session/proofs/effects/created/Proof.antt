@@ -12,9 +12,27 @@ returns c =
 
 returns-2 : tie.Need-returns-2
 returns-2 c =
-    let counted = c .before .before in
+    let asked = c .before .before .before in
+    let counted = asked .before in
     let found = counted .before .next-free in
-    rw (← found .ensures, ← counted .count .ensures, le-ltb (found .result) (counted .count .result) (c .before .if1 .left)) (c .refused .ensures)
+    rw (
+      ← found .ensures,
+      ← counted .count .ensures,
+      le-ltb (found .result) (counted .count .result) (asked .if1 .left),
+      c .refused .ensures,
+      c .before .on .ensures,
+      c .before .before .room-of .ensures,
+    )
 
 pub created-spec : {M : Type 1} → statement M
-created-spec = tie.close (tie.spec (λ c. search needs) (λ c. search needs) (λ c. search needs) returns (λ c. search needs) returns-2)
+created-spec =
+    tie.close
+    (tie.spec
+    (λ c. search needs)
+    (λ c. search needs)
+    (λ c. search needs)
+    returns
+    (λ c. search needs)
+    (λ c. search needs)
+    (λ c. search needs)
+    returns-2)

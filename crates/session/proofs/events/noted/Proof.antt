@@ -8,8 +8,14 @@ use Rattle.session.proofs.events.noted.Tie as tie
 
 returns : tie.Need-returns
 returns c =
-    let asked = c .before .before .before .before in
-    rw (ap (λ (b : Bool). b && eqb (asked .before .args .s .recording) 1) (sym (asked .is-open .ensures)) ∙ c .before .before .if1 .taken, c .added .ensures)
+    let parts = c .before .before in
+    let asked = parts .before .before .before .before in
+    rw (
+      ap (λ (b : Bool). b && eqb (asked .before .args .s .recording) 1) (sym (asked .is-open .ensures)) ∙ parts .before .before .if1 .taken,
+      c .added .ensures,
+      parts .number-in .ensures,
+      c .before .place-in .ensures,
+    )
 
 returns-2 : tie.Need-returns-2
 returns-2 c =
@@ -17,4 +23,4 @@ returns-2 c =
     rw (ap (λ (b : Bool). b && eqb (asked .before .args .s .recording) 1) (sym (asked .is-open .ensures)) ∙ c .if1 .left)
 
 pub noted-spec : {M : Type 1} → statement M
-noted-spec = tie.close (tie.spec (λ c. search needs) (λ c. search needs) returns returns-2)
+noted-spec = tie.close (tie.spec (λ c. search needs) (λ c. search needs) (λ c. search needs) (λ c. search needs) returns returns-2)

@@ -6,7 +6,7 @@ use Rattle.session.proofs.gate.gate.Tie as tie
 
 returns : tie.Need-returns
 unfolding firstOf
-returns c = rw (c .enum-told .given .1)
+returns c = rw (c .before .enum-told .given .1) (c .on .ensures)
 
 returns-2 : tie.Need-returns-2
 unfolding firstOf
@@ -28,6 +28,7 @@ pub gate-spec : {M : Type 1} → statement M
 gate-spec =
     tie.close
     (tie.spec
+    (λ c. search needs)
     (λ c. search needs)
     (λ c. search needs)
     (λ c. search needs)

@@ -6,7 +6,22 @@ use Rattle.session.proofs.writers.read_write_access.Tie as tie
 
 returns : tie.Need-returns
 unfolding firstOf
-returns c = cc
+returns c =
+    let said = c .before .before .before in
+    let asked = said .before in
+    let sets = asked .before .before .before in
+    rw (
+      c .unless .ensures,
+      c .before .moved .ensures,
+      c .before .before .with-access .ensures,
+      said .with .ensures,
+      asked .in-reach .ensures,
+      asked .before .first2 .ensures,
+      asked .before .before .first .ensures,
+      sets .has2 .ensures,
+      sets .before .has .ensures,
+      sets .before .before .label-at .ensures,
+    )
 
 pub read-write-access-spec : {M : Type 1} → statement M
 read-write-access-spec =

@@ -1,4 +1,4 @@
-#include "places.h"
+#include "spots.h"
 
 #include <string.h>
 

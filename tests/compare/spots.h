@@ -1,6 +1,6 @@
-/* Places in a sound table where something can be changed and all else stays sound. */
-#ifndef PLACES_H
-#define PLACES_H
+/* Spots in a sound table where something can be changed and all else stays sound. */
+#ifndef SPOTS_H
+#define SPOTS_H
 
 #include "dice.h"
 
@@ -26,10 +26,10 @@ uint64_t chained_names(dice *d, uint64_t *table, uint64_t access);
 
 uint32_t any_schema(dice *d);
 
-/* A place that no other instance refers to, made free; never `except`. */
+/* One that no other instance refers to, made free; never `except`. */
 uint64_t *vacate(dice *d, uint64_t *table, const uint64_t *except);
 
-/* There, a new instance with nothing set; NULL without a place or a model for it. */
+/* There, a new instance with nothing set; NULL without a spot or a model for it. */
 uint64_t *new_instance(dice *d, uint64_t *table, uint32_t type, const uint64_t *except);
 uint64_t *new_instance_of_any_type(dice *d, uint64_t *table);
 
