@@ -2,8 +2,8 @@
 ghost use mathlib.Core.Path.{_≡_};
 ghost use Rattle.session.specs.Step.{outcome, core as coreOf};
 use session::call::core;
-use session::state::Answer;
-use session::state::Session;
+use state::state::Answer;
+use state::state::Session;
 
 #[no_mangle]
 pub extern "C" fn chip_core(

@@ -3,8 +3,8 @@
 ghost use mathlib.Core.Path.{_≡_};
 ghost use Rattle.session.specs.Step.{outcome, step};
 use session::call::call;
-use session::state::Answer;
-use session::state::Session;
+use state::state::Answer;
+use state::state::Session;
 
 #[no_mangle]
 pub extern "C" fn chip_call(

@@ -2,9 +2,9 @@
 use crate::printing::is_done;
 use crate::printing::line;
 use session::call::call;
-use session::events::blank_log;
-use session::state::Session;
-use session::state::closed_state;
+use state::events::blank_log;
+use state::state::Session;
+use state::state::closed_state;
 use words::layout::WORDS;
 
 // All that a reader holds between two calls.

@@ -1,9 +1,9 @@
 // What the program prints: names of cases, calls with their answers, events.
 ghost use Prim.Native.Nat.{_≤_};
 use libc::STDOUT_FILENO;
-use session::refusals;
-use session::state::Event;
-use session::state::Log;
+use state::refusals;
+use state::state::Event;
+use state::state::Log;
 
 fn text(bytes: &[u8]) {
     io::write_all(STDOUT_FILENO, bytes);

@@ -11,7 +11,7 @@ use Rattle.words.specs.Sets.{has}
 use Rattle.words.specs.Fields.{nameIn, repositoryIn, schemaIn, typeIn, modelIn}
 use Rattle.words.specs.Entries.{wordOf}
 use Rattle.tables.specs.View.{isLive, setAt, isSet, valueAt}
-use Rattle.session.specs.Refusals.{done}
+use Rattle.state.specs.Refusals.{done}
 use Rattle.session.specs.Operations.{operationOf}
 use Rattle.session.specs.Rows.{refusalOf}
 use Rattle.session.specs.Step.{Outcome}

@@ -4,7 +4,7 @@ use Prim.Native.Nat.{ℕ}
 use mathlib.Core.Bool.{Bool, false, cond, not, _||_, _&&_}
 use mathlib.Core.List.{List, [], _∷_}
 use lib.Dec.{eqb}
-use Rattle.session.specs.Refusals.{done}
+use Rattle.state.specs.Refusals.{done}
 use Rattle.session.specs.Runs.{Answered}
 
 -- ---- a call asked about, by operation number

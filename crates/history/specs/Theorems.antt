@@ -9,7 +9,7 @@ use Rattle.words.specs.Layout.{countOf}
 use Rattle.words.specs.Copies.{agree}
 use Rattle.tables.specs.View.{isLive}
 use Rattle.tables.specs.Sound.{soundTable}
-use Rattle.session.specs.Refusals.{NO-ROOM}
+use Rattle.state.specs.Refusals.{NO-ROOM}
 use Rattle.session.specs.Sound.{sound}
 use Rattle.session.specs.Runs.{Call, Answered, Chip, Fresh, outcomeOf, after, history}
 use Rattle.promises.specs.Keeps.Facts.{table-test}

@@ -14,11 +14,11 @@ use Rattle.words.specs.Laws.Copies.{Agreeing, agree-test, agree-entries, length
 use Rattle.tables.specs.Sound.{soundTables}
 use Rattle.tables.specs.Laws.Sound.{sound-alike}
 use Rattle.tables.specs.Laws.Changes.{Kept, change-keeps}
-use Rattle.session.specs.declared.state.Session.{Session}
-use Rattle.session.specs.declared.state.Answer.{Answer}
+use Rattle.state.specs.declared.state.Session.{Session}
+use Rattle.state.specs.declared.state.Answer.{Answer}
 use Rattle.session.specs.declared.effects.Tables.{Tables}
 use Rattle.session.specs.declared.effects.Tables.the-variants.{Stay, Commit, Drop, Changed}
-use Rattle.session.specs.Refusals.{SY-ERR}
+use Rattle.state.specs.Refusals.{SY-ERR}
 use Rattle.session.specs.Operations.{operationOf}
 use Rattle.session.specs.Sound.{soundSession, sound}
 use Rattle.session.specs.Checks.{firstOf, gate}

@@ -15,7 +15,7 @@ use Rattle.dictionary.specs.Subtype.{subtype}
 use Rattle.tables.specs.View.{headerAt}
 use Rattle.tables.specs.Changes.{apply}
 use Rattle.session.specs.Operations.{listed, lookup, operationOf}
-use Rattle.session.specs.States.{isOpen}
+use Rattle.state.specs.States.{isOpen}
 use Rattle.session.specs.Checks.{firstOf}
 use Rattle.session.specs.Rows.{refusalOf}
 use Rattle.session.specs.Step.{core}

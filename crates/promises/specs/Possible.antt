@@ -5,10 +5,10 @@ use Prim.Native.Nat.{ℕ}
 use lib.Dec.{eqb, ltb}
 use lib.ListN.{length}
 use Rattle.logic.specs.Search.{allIn}
-use Rattle.session.specs.declared.state.State.{State}
-use Rattle.session.specs.declared.state.Event.{Event}
-use Rattle.session.specs.declared.state.Log.{Log}
-use Rattle.session.specs.States.{places}
+use Rattle.state.specs.declared.state.State.{State}
+use Rattle.state.specs.declared.state.Event.{Event}
+use Rattle.state.specs.declared.state.Log.{Log}
+use Rattle.state.specs.States.{places}
 use Rattle.session.specs.Runs.{Call, Chip, Machine, afterBy}
 
 abbrev pub fits8 : ℕ → Bool

@@ -6,8 +6,8 @@ use mathlib.Core.List.{List, [], _∷_}
 use Prim.Native.Nat.{ℕ}
 use native.Mathlib.Omega.{arith}
 use Rattle.logic.specs.Laws.Bools.{clash}
-use Rattle.session.specs.declared.state.Session.{Session}
-use Rattle.session.specs.Refusals.{SY-ERR}
+use Rattle.state.specs.declared.state.Session.{Session}
+use Rattle.state.specs.Refusals.{SY-ERR}
 use Rattle.session.specs.Sound.{sound}
 use Rattle.session.specs.Step.{Outcome, core, step}
 use Rattle.session.specs.Runs.{Call, Answered, Chip, Fresh, Machine, outcomeBy, left, answeredBy, afterBy, historyBy, outcomeOf, after, history}

@@ -7,12 +7,12 @@ use Prim.Native.Nat.{ℕ}
 use lib.Dec.{eqb}
 use native.Mathlib.Omega.{arith}
 use borrow.Author.Tests.{ne-eqb}
-use Rattle.session.specs.declared.state.Session.{Session}
-use Rattle.session.specs.Refusals.{SY-ERR, done, _on_, numberIn, placeIn}
-use Rattle.session.specs.States.{noted}
+use Rattle.state.specs.declared.state.Session.{Session}
+use Rattle.state.specs.Refusals.{SY-ERR, done, _on_, numberIn, placeIn}
+use Rattle.state.specs.States.{noted}
 use Rattle.session.specs.Step.{Outcome, step}
 use Rattle.session.specs.Laws.Range.{Refusing}
-use Rattle.session.specs.Laws.Events.{noted-as-told}
+use Rattle.state.specs.Laws.Events.{noted-as-told}
 use Rattle.promises.specs.Keeps.Ways.{Way, unsound, refusing, doing, way}
 
 pub record LeftAlone (op : ℕ) (x : Session) (w k : List ℕ) (o : Outcome) : Type 0 where

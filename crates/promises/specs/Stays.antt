@@ -3,7 +3,7 @@ use mathlib.Core.Path.{_≡_}
 use mathlib.Core.Bool.{true}
 use mathlib.Core.List.{List}
 use Prim.Native.Nat.{ℕ, _<_}
-use Rattle.session.specs.declared.state.Session.{Session}
+use Rattle.state.specs.declared.state.Session.{Session}
 use Rattle.session.specs.Operations.{operationOf}
 use Rattle.session.specs.Sound.{sound}
 use Rattle.session.specs.Step.{Outcome, step}

@@ -13,10 +13,10 @@ use Rattle.words.specs.Entries.{filled, nextFree}
 use Rattle.dictionary.specs.Dictionary.{the-table}
 use Rattle.tables.specs.View.{setAt}
 use Rattle.tables.specs.Changes.{apply}
-use Rattle.session.specs.declared.state.Session.{Session}
-use Rattle.session.specs.Refusals.{done}
+use Rattle.state.specs.declared.state.Session.{Session}
+use Rattle.state.specs.Refusals.{done}
 use Rattle.session.specs.Operations.{listed, lookup, operationOf}
-use Rattle.session.specs.States.{isOpen}
+use Rattle.state.specs.States.{isOpen}
 use Rattle.session.specs.Checks.{firstOf}
 use Rattle.session.specs.Rows.{refusalOf}
 use Rattle.session.specs.Step.{Outcome, core}

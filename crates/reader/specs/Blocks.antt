@@ -8,7 +8,7 @@ use Rattle.records.specs.declared.decoding.Found.{Found}
 use Rattle.records.specs.declared.decoding.Found.the-variants.{Whole, Bad}
 use Rattle.records.specs.Records.{size, recordOf}
 use Rattle.records.specs.Lines.{lineText, badText, endText}
-use Rattle.session.specs.declared.state.Session.{Session}
+use Rattle.state.specs.declared.state.Session.{Session}
 use Rattle.session.specs.Step.{Outcome, core}
 use Rattle.session.specs.Runs.{freshSession, freshTable}
 use Rattle.reader.specs.declared.blocks.Run.{Run}

@@ -13,9 +13,9 @@ use records::lines::bad;
 use records::lines::end;
 use records::lines::line;
 use session::call::core;
-use session::events::blank_log;
-use session::state::Session;
-use session::state::closed_state;
+use state::events::blank_log;
+use state::state::Session;
+use state::state::closed_state;
 
 // The records of a block, and the bytes that a line of text has room in.
 const RECORDS: usize = 1024;

@@ -10,9 +10,9 @@ use Rattle.dictionary.specs.Subtype.{subtype}
 use Rattle.tables.specs.View.{shareSet}
 use Rattle.session.specs.declared.operations.Operation.{Operation}
 use Rattle.session.specs.declared.operations.Operation.the-variants.{Unlisted, Opening, InSession, Reader, Writer}
-use Rattle.session.specs.declared.state.State.{State}
-use Rattle.session.specs.Refusals.{FN-NAVL, SS-OPN, SS-NOPN, TR-EAB, TR-NAVL, TR-NRW, done, _on_}
-use Rattle.session.specs.States.{NONE, RO, ABORTED, isOpen, under}
+use Rattle.state.specs.declared.state.State.{State}
+use Rattle.state.specs.Refusals.{FN-NAVL, SS-OPN, SS-NOPN, TR-EAB, TR-NAVL, TR-NRW, done, _on_}
+use Rattle.state.specs.States.{NONE, RO, ABORTED, isOpen, under}
 
 -- a condition and the refusal that it gives, on its place
 infix 70 _gives_

@@ -9,12 +9,12 @@ use Rattle.words.specs.Entries.{nextFree}
 use Rattle.words.specs.Copies.{copied}
 use Rattle.tables.specs.declared.changes.Change.the-variants.{Made}
 use Rattle.tables.specs.Changes.{apply}
-use Rattle.session.specs.declared.state.State.{State}
+use Rattle.state.specs.declared.state.State.{State}
 use Rattle.session.specs.declared.effects.Tables.{Tables}
 use Rattle.session.specs.declared.effects.Tables.the-variants.{Stay, Commit, Drop, Changed}
 use Rattle.session.specs.declared.effects.Effect.{Effect}
-use Rattle.session.specs.Refusals.{NO-ROOM, done, _on_, roomOf}
-use Rattle.session.specs.States.{RW, under}
+use Rattle.state.specs.Refusals.{NO-ROOM, done, _on_, roomOf}
+use Rattle.state.specs.States.{RW, under}
 
 -- what becomes of the tables: nothing; a commit copies working to kept, a drop kept to working; or working is changed
 abbrev pub workingAfter : Tables → List ℕ → List ℕ → List ℕ

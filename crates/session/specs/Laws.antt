@@ -1,7 +1,6 @@
 -- What callers cite of the definitions.
 pub mod Operations
 pub mod Checks
-pub mod Events
 pub mod Sound
 pub mod Range
 pub mod Answers

@@ -1,6 +1,4 @@
-pub mod Refusals
 pub mod Operations
-pub mod States
 pub mod Sound
 pub mod Quick
 pub mod Checks

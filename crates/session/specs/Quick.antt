@@ -1,5 +1,4 @@
 -- What only the quick code asks for: a set gathered once, a log by itself, a row by itself. No promise is about it.
 pub mod Access
 pub mod Answers
-pub mod Events
 pub mod Rows

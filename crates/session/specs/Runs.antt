@@ -6,9 +6,9 @@ use native.Mathlib.Nat.{mod-lt}
 use lib.Dec.{lit<}
 use lib.ListN.{length, getD, replicate}
 use Rattle.words.specs.Layout.{words}
-use Rattle.session.specs.declared.state.Session.{Session}
-use Rattle.session.specs.declared.state.Answer.{Answer}
-use Rattle.session.specs.States.{closedState, blankLog, session}
+use Rattle.state.specs.declared.state.Session.{Session}
+use Rattle.state.specs.declared.state.Answer.{Answer}
+use Rattle.state.specs.States.{closedState, blankLog, session}
 use Rattle.session.specs.Step.{Outcome, step}
 
 -- that c is a u32 has to be said, for it may be a name or a value, and these have fields of 32 bits

@@ -10,12 +10,12 @@ use Rattle.words.specs.Sets.{none, bits, has}
 use Rattle.words.specs.Fields.{repositories, repositoryIn}
 use Rattle.tables.specs.View.{isLive, labelAt}
 use Rattle.tables.specs.Sound.{soundTables}
-use Rattle.session.specs.declared.state.State.{State}
-use Rattle.session.specs.declared.state.Event.{Event}
-use Rattle.session.specs.declared.state.Log.{Log}
-use Rattle.session.specs.declared.state.Session.{Session}
-use Rattle.session.specs.Refusals.{FN-NAVL, NO-ROOM, REMAINING}
-use Rattle.session.specs.States.{NONE, RO, RW, ABORTED, isOpen, under, places, blankEvent}
+use Rattle.state.specs.declared.state.State.{State}
+use Rattle.state.specs.declared.state.Event.{Event}
+use Rattle.state.specs.declared.state.Log.{Log}
+use Rattle.state.specs.declared.state.Session.{Session}
+use Rattle.state.specs.Refusals.{FN-NAVL, NO-ROOM, REMAINING}
+use Rattle.state.specs.States.{NONE, RO, RW, ABORTED, isOpen, under, places, blankEvent}
 
 -- an event may have any number, any refusal but SY_ERR, and any place with it; one that is not used is blank
 abbrev pub soundEvent : Event → Bool

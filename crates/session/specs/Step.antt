@@ -3,13 +3,13 @@ use Prim.Native.Nat.{ℕ}
 use mathlib.Core.Bool.{cond}
 use mathlib.Core.List.{List}
 use lib.Dec.{eqb}
-use Rattle.session.specs.declared.state.Log.{Log}
-use Rattle.session.specs.declared.state.State.{State}
-use Rattle.session.specs.declared.state.Session.{Session}
-use Rattle.session.specs.declared.state.Answer.{Answer}
-use Rattle.session.specs.Refusals.{SY-ERR, done, _on_, numberIn, placeIn}
+use Rattle.state.specs.declared.state.Log.{Log}
+use Rattle.state.specs.declared.state.State.{State}
+use Rattle.state.specs.declared.state.Session.{Session}
+use Rattle.state.specs.declared.state.Answer.{Answer}
+use Rattle.state.specs.Refusals.{SY-ERR, done, _on_, numberIn, placeIn}
 use Rattle.session.specs.Operations.{operationOf}
-use Rattle.session.specs.States.{isOpen, blankLog, session, noted}
+use Rattle.state.specs.States.{isOpen, blankLog, session, noted}
 use Rattle.session.specs.Sound.{sound}
 use Rattle.session.specs.declared.effects.Effect.{Effect}
 use Rattle.session.specs.Effects.{workingAfter, keptAfter}

@@ -1,19 +1,19 @@
 // The one place that builds answers.
 ghost use mathlib.Core.Path.{_≡_};
 ghost use mathlib.Core.Logic.{_⊎_};
-ghost use Rattle.session.specs.Refusals.{SY-ERR, done, _on_};
+ghost use Rattle.state.specs.Refusals.{SY-ERR, done, _on_};
 ghost use Rattle.session.specs.Step.{answer, finishedAnswer};
 ghost use Rattle.session.specs.Quick.Answers.{logOf};
-use crate::events::blank_log;
-use crate::events::noted;
-use crate::refusals;
-use crate::refusals::number_in;
-use crate::refusals::place_in;
-use crate::state::Answer;
-use crate::state::Log;
-use crate::state::Session;
-use crate::state::State;
-use crate::state::is_open;
+use state::events::blank_log;
+use state::events::noted;
+use state::refusals;
+use state::refusals::number_in;
+use state::refusals::place_in;
+use state::state::Answer;
+use state::state::Log;
+use state::state::Session;
+use state::state::State;
+use state::state::is_open;
 
 // SY_ERR adds no event: the session goes back as it came.
 pub fn unsound(x: Session) -> Answer

@@ -3,7 +3,7 @@
 // them all.
 ghost use mathlib.Core.Path.{_≡_};
 ghost use mathlib.Core.Bool.{cond};
-ghost use Rattle.session.specs.Refusals.{_on_};
+ghost use Rattle.state.specs.Refusals.{_on_};
 ghost use Rattle.session.specs.Checks.{firstOf};
 ghost use Rattle.session.specs.Rows.{inReach, writable as writableOf, accessed as accessedOf};
 ghost use Rattle.session.specs.Quick.Rows.{known};
@@ -11,9 +11,9 @@ use crate::conditions::away;
 use crate::conditions::missing;
 use crate::conditions::no_access;
 use crate::conditions::no_writing;
-use crate::refusals;
-use crate::refusals::on;
-use crate::state::State;
+use state::refusals;
+use state::refusals::on;
+use state::state::State;
 
 // The refusal on its place if its condition holds, else what the rest gives.
 pub fn first(condition: bool, refusal: u8, place: u8, rest: u32) -> u32

@@ -3,7 +3,7 @@ ghost use mathlib.Core.Path.{_≡_};
 ghost use mathlib.Core.Bool.{not};
 ghost use Rattle.dictionary.specs.Dictionary.{isType};
 ghost use Rattle.session.specs.Checks.{noRepository, notOpened, away as awayFrom, missing as missingEntry, noWriting, noAccess, lacksAttribute, schemasDiffer, typeForeign, typesDiffer, wrongType, apart as apartIn};
-use crate::state::State;
+use state::state::State;
 use tables::view::share_set;
 use words::fields::REPOSITORIES;
 use words::fields::is_free;

@@ -2,12 +2,12 @@
 // only says the change; the tables are written elsewhere.
 ghost use mathlib.Core.Path.{_≡_};
 ghost use Rattle.session.specs.Effects.{does, refuses, unlessRefused, number, ifWriting, created as createdIn};
-use crate::refusals;
-use crate::refusals::on;
-use crate::refusals::room_of;
-use crate::state::RW;
-use crate::state::State;
-use crate::state::under;
+use state::refusals;
+use state::refusals::on;
+use state::refusals::room_of;
+use state::state::RW;
+use state::state::State;
+use state::state::under;
 use tables::changes::Change;
 use words::layout::Kind;
 use words::layout::count;

@@ -5,14 +5,14 @@ ghost use Rattle.session.specs.Checks.{firstOf, transacted as transacted
 ghost use Rattle.session.specs.Quick.Rows.{known};
 use crate::checks::first;
 use crate::operations::Operation;
-use crate::refusals;
-use crate::refusals::on;
-use crate::state::ABORTED;
-use crate::state::NONE;
-use crate::state::RO;
-use crate::state::State;
-use crate::state::is_open;
-use crate::state::under;
+use state::refusals;
+use state::refusals::on;
+use state::state::ABORTED;
+use state::state::NONE;
+use state::state::RO;
+use state::state::State;
+use state::state::is_open;
+use state::state::under;
 
 // A session and a transaction are open, and then the rest.
 fn transacted(s: State, rest: u32) -> u32

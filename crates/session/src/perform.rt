@@ -9,10 +9,10 @@ use crate::gate::gate;
 use crate::in_session::in_session;
 use crate::operations::Operation;
 use crate::readers::read;
-use crate::refusals;
-use crate::state::State;
-use crate::state::opened_state;
 use crate::writers::write;
+use state::refusals;
+use state::state::State;
+use state::state::opened_state;
 
 fn own(op: Operation, a: u32, b: u32, c: u32, s: State, w: &[u64]) -> Effect
     ensures { λ r. ⌜ r ≡ rowDone s (rowOf op a b c s (now (w .entry))) ⌝ }

@@ -5,8 +5,8 @@ use mathlib.Core.Path.{_≡_, refl, ap, _∙_}
 use mathlib.Core.List.{List, [], _∷_}
 use Prim.Native.Nat.{ℕ}
 use denote.Ref.{now}
-use Rattle.session.specs.declared.state.Session.{Session}
-use Rattle.session.specs.Refusals.{done}
+use Rattle.state.specs.declared.state.Session.{Session}
+use Rattle.state.specs.Refusals.{done}
 use Rattle.session.specs.Step.{Outcome, outcome, step}
 use Rattle.session.specs.Runs.{Call, Answered, Chip, left, answeredBy, outcomeOf, afterBy, historyBy, after, history}
 use Rattle.promises.specs.Refusal.{LeftAlone, refusal-leaves-alone, done-names-no-place}

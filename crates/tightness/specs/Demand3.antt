@@ -13,11 +13,11 @@ use Rattle.words.specs.declared.layout.Kind.the-variants.{Model}
 use Rattle.tables.specs.View.{isLive}
 use Rattle.session.specs.declared.operations.Operation.{Operation}
 use Rattle.session.specs.declared.operations.Operation.the-variants as operation
-use Rattle.session.specs.declared.state.State.{State}
-use Rattle.session.specs.declared.state.Session.{Session}
-use Rattle.session.specs.Refusals.{done, NO-ROOM}
+use Rattle.state.specs.declared.state.State.{State}
+use Rattle.state.specs.declared.state.Session.{Session}
+use Rattle.state.specs.Refusals.{done, NO-ROOM}
 use Rattle.session.specs.Operations.{operationOf}
-use Rattle.session.specs.States.{isOpen}
+use Rattle.state.specs.States.{isOpen}
 use Rattle.session.specs.Checks.{firstOf}
 use Rattle.session.specs.Effects.{workingAfter}
 use Rattle.session.specs.Rows.{refusalOf, effect}

@@ -61,24 +61,24 @@ use Rattle.tables.proofs.view.set_at.Reads as tables-view-set-at
 use Rattle.tables.proofs.view.header_at.Reads as tables-view-header-at
 use Rattle.tables.proofs.view.is_set.Reads as tables-view-is-set
 use Rattle.tables.proofs.view.value_at.Reads as tables-view-value-at
+use Rattle.state.proofs.events.blank_log.Reads as state-events-blank-log
+use Rattle.state.proofs.events.noted.Reads as state-events-noted
+use Rattle.state.proofs.refusals.on.Reads as state-refusals-on
+use Rattle.state.proofs.refusals.number_in.Reads as state-refusals-number-in
+use Rattle.state.proofs.refusals.place_in.Reads as state-refusals-place-in
+use Rattle.state.proofs.refusals.room_of.Reads as state-refusals-room-of
+use Rattle.state.proofs.state.is_open.Reads as state-state-is-open
+use Rattle.state.proofs.state.under.Reads as state-state-under
+use Rattle.state.proofs.state.with_recording.Reads as state-state-with-recording
+use Rattle.state.proofs.state.with_transaction.Reads as state-state-with-transaction
+use Rattle.state.proofs.state.with_repositories.Reads as state-state-with-repositories
+use Rattle.state.proofs.state.with_access.Reads as state-state-with-access
+use Rattle.state.proofs.state.woken.Reads as state-state-woken
+use Rattle.state.proofs.state.ended.Reads as state-state-ended
+use Rattle.state.proofs.state.closed_state.Reads as state-state-closed-state
+use Rattle.state.proofs.state.opened_state.Reads as state-state-opened-state
 use Rattle.session.proofs.call.core.Reads as session-call-core
 use Rattle.session.proofs.call.call.Reads as session-call-call
-use Rattle.session.proofs.events.blank_log.Reads as session-events-blank-log
-use Rattle.session.proofs.events.noted.Reads as session-events-noted
-use Rattle.session.proofs.refusals.on.Reads as session-refusals-on
-use Rattle.session.proofs.refusals.number_in.Reads as session-refusals-number-in
-use Rattle.session.proofs.refusals.place_in.Reads as session-refusals-place-in
-use Rattle.session.proofs.refusals.room_of.Reads as session-refusals-room-of
-use Rattle.session.proofs.state.is_open.Reads as session-state-is-open
-use Rattle.session.proofs.state.under.Reads as session-state-under
-use Rattle.session.proofs.state.with_recording.Reads as session-state-with-recording
-use Rattle.session.proofs.state.with_transaction.Reads as session-state-with-transaction
-use Rattle.session.proofs.state.with_repositories.Reads as session-state-with-repositories
-use Rattle.session.proofs.state.with_access.Reads as session-state-with-access
-use Rattle.session.proofs.state.woken.Reads as session-state-woken
-use Rattle.session.proofs.state.ended.Reads as session-state-ended
-use Rattle.session.proofs.state.closed_state.Reads as session-state-closed-state
-use Rattle.session.proofs.state.opened_state.Reads as session-state-opened-state
 use Rattle.records.proofs.decoding.decode.Reads as records-decoding-decode
 use Rattle.records.proofs.lines.line.Reads as records-lines-line
 use Rattle.records.proofs.lines.bad.Reads as records-lines-bad
@@ -263,6 +263,56 @@ tables-view-is-set-one κs a x y s s′ p q = p ∙ sym q
 pub tables-view-value-at-one : (κs : _) (a : _) (x y : _) (s s′ : _) → tables-view-value-at.Post κs a x s → tables-view-value-at.Post κs a y s′ → x ≡ y
 tables-view-value-at-one κs a x y s s′ p q = p ∙ sym q
 
+-- ---- state
+
+pub state-events-blank-log-one : (κs : _) (a : _) (x y : _) (s s′ : _) → state-events-blank-log.Post κs a x s → state-events-blank-log.Post κs a y s′ → x ≡ y
+state-events-blank-log-one κs a x y s s′ p q = p ∙ sym q
+
+pub state-events-noted-one : (κs : _) (a : _) (x y : _) (s s′ : _) → state-events-noted.Post κs a x s → state-events-noted.Post κs a y s′ → x ≡ y
+state-events-noted-one κs a x y s s′ p q = p ∙ sym q
+
+pub state-refusals-on-one : (κs : _) (a : _) (x y : _) (s s′ : _) → state-refusals-on.Post κs a x s → state-refusals-on.Post κs a y s′ → x ≡ y
+state-refusals-on-one κs a x y s s′ p q = p ∙ sym q
+
+pub state-refusals-number-in-one : (κs : _) (a : _) (x y : _) (s s′ : _) → state-refusals-number-in.Post κs a x s → state-refusals-number-in.Post κs a y s′ → x ≡ y
+state-refusals-number-in-one κs a x y s s′ p q = p ∙ sym q
+
+pub state-refusals-place-in-one : (κs : _) (a : _) (x y : _) (s s′ : _) → state-refusals-place-in.Post κs a x s → state-refusals-place-in.Post κs a y s′ → x ≡ y
+state-refusals-place-in-one κs a x y s s′ p q = p ∙ sym q
+
+pub state-refusals-room-of-one : (κs : _) (a : _) (x y : _) (s s′ : _) → state-refusals-room-of.Post κs a x s → state-refusals-room-of.Post κs a y s′ → x ≡ y
+state-refusals-room-of-one κs a x y s s′ p q = p ∙ sym q
+
+pub state-state-is-open-one : (κs : _) (a : _) (x y : _) (s s′ : _) → state-state-is-open.Post κs a x s → state-state-is-open.Post κs a y s′ → x ≡ y
+state-state-is-open-one κs a x y s s′ p q = p ∙ sym q
+
+pub state-state-under-one : (κs : _) (a : _) (x y : _) (s s′ : _) → state-state-under.Post κs a x s → state-state-under.Post κs a y s′ → x ≡ y
+state-state-under-one κs a x y s s′ p q = p ∙ sym q
+
+pub state-state-with-recording-one : (κs : _) (a : _) (x y : _) (s s′ : _) → state-state-with-recording.Post κs a x s → state-state-with-recording.Post κs a y s′ → x ≡ y
+state-state-with-recording-one κs a x y s s′ p q = p ∙ sym q
+
+pub state-state-with-transaction-one : (κs : _) (a : _) (x y : _) (s s′ : _) → state-state-with-transaction.Post κs a x s → state-state-with-transaction.Post κs a y s′ → x ≡ y
+state-state-with-transaction-one κs a x y s s′ p q = p ∙ sym q
+
+pub state-state-with-repositories-one : (κs : _) (a : _) (x y : _) (s s′ : _) → state-state-with-repositories.Post κs a x s → state-state-with-repositories.Post κs a y s′ → x ≡ y
+state-state-with-repositories-one κs a x y s s′ p q = p ∙ sym q
+
+pub state-state-with-access-one : (κs : _) (a : _) (x y : _) (s s′ : _) → state-state-with-access.Post κs a x s → state-state-with-access.Post κs a y s′ → x ≡ y
+state-state-with-access-one κs a x y s s′ p q = p ∙ sym q
+
+pub state-state-woken-one : (κs : _) (a : _) (x y : _) (s s′ : _) → state-state-woken.Post κs a x s → state-state-woken.Post κs a y s′ → x ≡ y
+state-state-woken-one κs a x y s s′ p q = p ∙ sym q
+
+pub state-state-ended-one : (κs : _) (a : _) (x y : _) (s s′ : _) → state-state-ended.Post κs a x s → state-state-ended.Post κs a y s′ → x ≡ y
+state-state-ended-one κs a x y s s′ p q = p ∙ sym q
+
+pub state-state-closed-state-one : (κs : _) (a : _) (x y : _) (s s′ : _) → state-state-closed-state.Post κs a x s → state-state-closed-state.Post κs a y s′ → x ≡ y
+state-state-closed-state-one κs a x y s s′ p q = p ∙ sym q
+
+pub state-state-opened-state-one : (κs : _) (a : _) (x y : _) (s s′ : _) → state-state-opened-state.Post κs a x s → state-state-opened-state.Post κs a y s′ → x ≡ y
+state-state-opened-state-one κs a x y s s′ p q = p ∙ sym q
+
 -- ---- session
 
 pub session-call-core-one : (κs : _) (a : _) (x y : _) (s s′ : _) → session-call-core.Post κs a x s → session-call-core.Post κs a y s′
@@ -272,54 +322,6 @@ session-call-core-one κs a x y s s′ p q = p ∙ sym q
 pub session-call-call-one : (κs : _) (a : _) (x y : _) (s s′ : _) → session-call-call.Post κs a x s → session-call-call.Post κs a y s′
     → outcome x (now (s .1 .1 .1 .1 .1 .0)) (now (s .1 .1 .1 .1 .1 .1 .0)) ≡ outcome y (now (s′ .1 .1 .1 .1 .1 .0)) (now (s′ .1 .1 .1 .1 .1 .1 .0))
 session-call-call-one κs a x y s s′ p q = p ∙ sym q
-
-pub session-events-blank-log-one : (κs : _) (a : _) (x y : _) (s s′ : _) → session-events-blank-log.Post κs a x s → session-events-blank-log.Post κs a y s′ → x ≡ y
-session-events-blank-log-one κs a x y s s′ p q = p ∙ sym q
-
-pub session-events-noted-one : (κs : _) (a : _) (x y : _) (s s′ : _) → session-events-noted.Post κs a x s → session-events-noted.Post κs a y s′ → x ≡ y
-session-events-noted-one κs a x y s s′ p q = p ∙ sym q
-
-pub session-refusals-on-one : (κs : _) (a : _) (x y : _) (s s′ : _) → session-refusals-on.Post κs a x s → session-refusals-on.Post κs a y s′ → x ≡ y
-session-refusals-on-one κs a x y s s′ p q = p ∙ sym q
-
-pub session-refusals-number-in-one : (κs : _) (a : _) (x y : _) (s s′ : _) → session-refusals-number-in.Post κs a x s → session-refusals-number-in.Post κs a y s′ → x ≡ y
-session-refusals-number-in-one κs a x y s s′ p q = p ∙ sym q
-
-pub session-refusals-place-in-one : (κs : _) (a : _) (x y : _) (s s′ : _) → session-refusals-place-in.Post κs a x s → session-refusals-place-in.Post κs a y s′ → x ≡ y
-session-refusals-place-in-one κs a x y s s′ p q = p ∙ sym q
-
-pub session-refusals-room-of-one : (κs : _) (a : _) (x y : _) (s s′ : _) → session-refusals-room-of.Post κs a x s → session-refusals-room-of.Post κs a y s′ → x ≡ y
-session-refusals-room-of-one κs a x y s s′ p q = p ∙ sym q
-
-pub session-state-is-open-one : (κs : _) (a : _) (x y : _) (s s′ : _) → session-state-is-open.Post κs a x s → session-state-is-open.Post κs a y s′ → x ≡ y
-session-state-is-open-one κs a x y s s′ p q = p ∙ sym q
-
-pub session-state-under-one : (κs : _) (a : _) (x y : _) (s s′ : _) → session-state-under.Post κs a x s → session-state-under.Post κs a y s′ → x ≡ y
-session-state-under-one κs a x y s s′ p q = p ∙ sym q
-
-pub session-state-with-recording-one : (κs : _) (a : _) (x y : _) (s s′ : _) → session-state-with-recording.Post κs a x s → session-state-with-recording.Post κs a y s′ → x ≡ y
-session-state-with-recording-one κs a x y s s′ p q = p ∙ sym q
-
-pub session-state-with-transaction-one : (κs : _) (a : _) (x y : _) (s s′ : _) → session-state-with-transaction.Post κs a x s → session-state-with-transaction.Post κs a y s′ → x ≡ y
-session-state-with-transaction-one κs a x y s s′ p q = p ∙ sym q
-
-pub session-state-with-repositories-one : (κs : _) (a : _) (x y : _) (s s′ : _) → session-state-with-repositories.Post κs a x s → session-state-with-repositories.Post κs a y s′ → x ≡ y
-session-state-with-repositories-one κs a x y s s′ p q = p ∙ sym q
-
-pub session-state-with-access-one : (κs : _) (a : _) (x y : _) (s s′ : _) → session-state-with-access.Post κs a x s → session-state-with-access.Post κs a y s′ → x ≡ y
-session-state-with-access-one κs a x y s s′ p q = p ∙ sym q
-
-pub session-state-woken-one : (κs : _) (a : _) (x y : _) (s s′ : _) → session-state-woken.Post κs a x s → session-state-woken.Post κs a y s′ → x ≡ y
-session-state-woken-one κs a x y s s′ p q = p ∙ sym q
-
-pub session-state-ended-one : (κs : _) (a : _) (x y : _) (s s′ : _) → session-state-ended.Post κs a x s → session-state-ended.Post κs a y s′ → x ≡ y
-session-state-ended-one κs a x y s s′ p q = p ∙ sym q
-
-pub session-state-closed-state-one : (κs : _) (a : _) (x y : _) (s s′ : _) → session-state-closed-state.Post κs a x s → session-state-closed-state.Post κs a y s′ → x ≡ y
-session-state-closed-state-one κs a x y s s′ p q = p ∙ sym q
-
-pub session-state-opened-state-one : (κs : _) (a : _) (x y : _) (s s′ : _) → session-state-opened-state.Post κs a x s → session-state-opened-state.Post κs a y s′ → x ≡ y
-session-state-opened-state-one κs a x y s s′ p q = p ∙ sym q
 
 -- ---- records
 

@@ -15,9 +15,9 @@ use Rattle.words.specs.Fields.{isFree, flagged}
 use Rattle.words.specs.Entries.{wordOf}
 use Rattle.words.specs.Laws.Sets.{has-none}
 use Rattle.words.specs.Laws.Copies.{Agreeing, agree-entries}
-use Rattle.session.specs.declared.state.State.{State}
+use Rattle.state.specs.declared.state.State.{State}
 use Rattle.session.specs.declared.effects.Tables.{Tables}
-use Rattle.session.specs.Refusals.{done}
+use Rattle.state.specs.Refusals.{done}
 use Rattle.session.specs.Operations.{operationOf}
 use Rattle.session.specs.Checks.{Check, gate}
 use Rattle.session.specs.Effects.{workingAfter, keptAfter}

@@ -16,9 +16,9 @@ use Rattle.words.specs.Entries.{wordOf, nextFree}
 use Rattle.tables.specs.View.{isLive}
 use Rattle.session.specs.declared.operations.Operation.{Operation}
 use Rattle.session.specs.declared.operations.Operation.the-variants as operation
-use Rattle.session.specs.declared.state.State.{State}
+use Rattle.state.specs.declared.state.State.{State}
 use Rattle.session.specs.declared.effects.Effect.{Effect}
-use Rattle.session.specs.Refusals.{NO-ROOM, done, numberIn}
+use Rattle.state.specs.Refusals.{NO-ROOM, done, numberIn}
 use Rattle.session.specs.Operations.{operationOf}
 use Rattle.session.specs.Effects.{created}
 use Rattle.session.specs.Checks.{Check, firstOf}

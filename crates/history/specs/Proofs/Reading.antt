@@ -18,7 +18,7 @@ use Rattle.session.specs.declared.operations.Operation.{Operation}
 use Rattle.session.specs.declared.operations.Operation.the-variants as operation
 use Rattle.session.specs.declared.operations.Writer.{Writer}
 use Rattle.session.specs.declared.operations.Writer.the-variants as writer
-use Rattle.session.specs.Refusals.{done}
+use Rattle.state.specs.Refusals.{done}
 use Rattle.session.specs.Operations.{Numbered, listed, lookup, operationOf}
 use Rattle.session.specs.Laws.Operations.{the-list}
 use Rattle.session.specs.Runs.{Call, Answered}

@@ -33,13 +33,13 @@ use Rattle.session.specs.declared.operations.Reader.{Reader}
 use Rattle.session.specs.declared.operations.Reader.the-variants as reader
 use Rattle.session.specs.declared.operations.Writer.{Writer}
 use Rattle.session.specs.declared.operations.Writer.the-variants as writer
-use Rattle.session.specs.declared.state.State.{State}
-use Rattle.session.specs.declared.state.Session.{Session}
+use Rattle.state.specs.declared.state.State.{State}
+use Rattle.state.specs.declared.state.Session.{Session}
 use Rattle.session.specs.declared.effects.Effect.{Effect}
 use Rattle.session.specs.declared.effects.Tables.{Tables}
 use Rattle.session.specs.declared.effects.Tables.the-variants.{Stay, Commit, Drop, Changed}
-use Rattle.session.specs.Refusals.{MO-NEXS, MO-DUP, SI-NEXS, SI-DUP, done}
-use Rattle.session.specs.States.{RW, under}
+use Rattle.state.specs.Refusals.{MO-NEXS, MO-DUP, SI-NEXS, SI-DUP, done}
+use Rattle.state.specs.States.{RW, under}
 use Rattle.session.specs.Checks.{gate}
 use Rattle.session.specs.Effects.{does, full, created, ifWriting}
 use Rattle.session.specs.Runs.{Call}

@@ -12,8 +12,8 @@ use Rattle.words.specs.Sets.{none, bits, has, insert, remove}
 use Rattle.logic.specs.Laws.Bools.{and-left, clash}
 use Rattle.words.specs.Laws.Sets.{has-insert, has-remove}
 use Rattle.tables.specs.View.{isLive, labelAt}
-use Rattle.session.specs.declared.state.Session.{Session}
-use Rattle.session.specs.States.{RO, RW, isOpen, under, withAccess, woken, session}
+use Rattle.state.specs.declared.state.Session.{Session}
+use Rattle.state.specs.States.{RO, RW, isOpen, under, withAccess, woken, session}
 use Rattle.session.specs.Sound.{mayAccess}
 use Rattle.promises.specs.Keeps.Facts.{SoundTables}
 use Rattle.promises.specs.Keeps.Frame.{same-or-not}

@@ -13,10 +13,10 @@ use Rattle.words.specs.Copies.{copied}
 use Rattle.logic.specs.Laws.Bools.{and-left, clash}
 use Rattle.words.specs.Laws.Sets.{has-none}
 use Rattle.tables.specs.View.{isLive, labelAt}
-use Rattle.session.specs.declared.state.State.{State}
-use Rattle.session.specs.declared.state.Log.{Log}
-use Rattle.session.specs.declared.state.Session.{Session}
-use Rattle.session.specs.States.{NONE, RO, RW, ABORTED, isOpen, under, closedState, blankLog, session}
+use Rattle.state.specs.declared.state.State.{State}
+use Rattle.state.specs.declared.state.Log.{Log}
+use Rattle.state.specs.declared.state.Session.{Session}
+use Rattle.state.specs.States.{NONE, RO, RW, ABORTED, isOpen, under, closedState, blankLog, session}
 use Rattle.session.specs.Sound.{soundPlaces, soundLog, mayAccess}
 use Rattle.session.specs.declared.effects.Tables.the-variants.{Stay, Commit, Drop}
 use Rattle.session.specs.Effects.{workingAfter, keptAfter, ifWriting}

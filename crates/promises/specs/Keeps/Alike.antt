@@ -29,7 +29,7 @@ use Rattle.session.specs.declared.operations.Reader.{Reader}
 use Rattle.session.specs.declared.operations.Reader.the-variants as reader
 use Rattle.session.specs.declared.operations.Writer.{Writer}
 use Rattle.session.specs.declared.operations.Writer.the-variants as writer
-use Rattle.session.specs.declared.state.State.{State}
+use Rattle.state.specs.declared.state.State.{State}
 use Rattle.session.specs.Sound.{soundAccess}
 use Rattle.session.specs.Rows.{referring, readerRow, writerRow, rowOf}
 use Rattle.promises.specs.Keeps.Frame.{same-or-not}

@@ -25,9 +25,9 @@ use Rattle.tables.specs.Sound.{mayJoin, soundValue}
 use Rattle.tables.specs.declared.changes.Change.the-variants.{Made, Gone, Joined, Left, Put, Unset}
 use Rattle.tables.specs.Deletions.{goesWith, swept}
 use Rattle.tables.specs.Changes.{apply}
-use Rattle.session.specs.declared.state.Session.{Session}
-use Rattle.session.specs.Refusals.{done}
-use Rattle.session.specs.States.{RW, isOpen, under, withAccess}
+use Rattle.state.specs.declared.state.Session.{Session}
+use Rattle.state.specs.Refusals.{done}
+use Rattle.state.specs.States.{RW, isOpen, under, withAccess}
 use Rattle.session.specs.declared.effects.Tables.the-variants.{Changed}
 use Rattle.session.specs.declared.effects.Effect.{Effect}
 use Rattle.session.specs.Effects.{does, full, created, workingAfter, keptAfter}

@@ -20,9 +20,9 @@ use Rattle.session.specs.declared.operations.Reader.{Reader}
 use Rattle.session.specs.declared.operations.Reader.the-variants as reader
 use Rattle.session.specs.declared.operations.Writer.{Writer}
 use Rattle.session.specs.declared.operations.Writer.the-variants as writer
-use Rattle.session.specs.declared.state.Session.{Session}
-use Rattle.session.specs.Refusals.{MO-NEXS, MO-DUP, SI-NEXS, SI-DUP, done}
-use Rattle.session.specs.States.{NONE, RO, RW, ABORTED, isOpen, under, woken}
+use Rattle.state.specs.declared.state.Session.{Session}
+use Rattle.state.specs.Refusals.{MO-NEXS, MO-DUP, SI-NEXS, SI-DUP, done}
+use Rattle.state.specs.States.{NONE, RO, RW, ABORTED, isOpen, under, woken}
 use Rattle.session.specs.Checks.{Check, gate}
 use Rattle.session.specs.Rows.{reading, sessionRow, readerRow, writerRow, checks, effect}
 use Rattle.session.specs.Laws.Range.{Clear, clear-first, clear-rest}

@@ -9,10 +9,10 @@ use lib.Dec.{eqb, ltb}
 use lib.ListN.{length, getD, set, drop, length-set, length-drop, length-append, List·getD-append}
 use lib.Seq.{getD-set-same, getD-set-other, getD-drop, getD-at}
 use borrow.Author.Tests.{ltb-true, ltb-false, lt-ltb, le-ltb}
-use Rattle.session.specs.declared.state.Event.{Event}
-use Rattle.session.specs.declared.state.Log.{Log}
-use Rattle.session.specs.declared.state.Session.{Session}
-use Rattle.session.specs.States.{isOpen, places, event, blankEvent, log, added, session, noted}
+use Rattle.state.specs.declared.state.Event.{Event}
+use Rattle.state.specs.declared.state.Log.{Log}
+use Rattle.state.specs.declared.state.Session.{Session}
+use Rattle.state.specs.States.{isOpen, places, event, blankEvent, log, added, session, noted}
 use Rattle.session.specs.Sound.{soundEvent}
 use Rattle.logic.specs.Laws.Bools.{clash}
 use Rattle.session.specs.Laws.Range.{Refusing, refusing-test}

@@ -19,8 +19,8 @@ use Rattle.tables.specs.View.{isLive, labelAt, typeAt}
 use Rattle.tables.specs.Sound.{soundValue}
 use Rattle.session.specs.declared.operations.Writer.{Writer}
 use Rattle.session.specs.declared.operations.Operation.the-variants as operation
-use Rattle.session.specs.declared.state.State.{State}
-use Rattle.session.specs.States.{NONE, RO, ABORTED, isOpen, under}
+use Rattle.state.specs.declared.state.State.{State}
+use Rattle.state.specs.States.{NONE, RO, ABORTED, isOpen, under}
 use Rattle.session.specs.Checks.{Check, transacted, gate}
 use Rattle.session.specs.Rows.{inReach, writable, accessed, reading, writing, creating, referring}
 use Rattle.session.specs.Laws.Range.{Clear}

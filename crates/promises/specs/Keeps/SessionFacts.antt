@@ -7,10 +7,10 @@ use lib.Dec.{ltb}
 use lib.ListN.{length, getD}
 use Rattle.words.specs.Sets.{none, bits, has}
 use Rattle.logic.specs.Laws.Decides.{Decides, both, equal, less, at-most, every, restated, itself, choice, whenever, unless, not-both}
-use Rattle.session.specs.declared.state.State.{State}
-use Rattle.session.specs.declared.state.Log.{Log}
-use Rattle.session.specs.declared.state.Session.{Session}
-use Rattle.session.specs.States.{NONE, RO, RW, ABORTED, isOpen, under, places, blankEvent}
+use Rattle.state.specs.declared.state.State.{State}
+use Rattle.state.specs.declared.state.Log.{Log}
+use Rattle.state.specs.declared.state.Session.{Session}
+use Rattle.state.specs.States.{NONE, RO, RW, ABORTED, isOpen, under, places, blankEvent}
 use Rattle.session.specs.Sound.{soundEvent, isBlank, soundPlaces, soundLog, mayAccess, soundAccess, soundTransaction, soundOpen, soundSession, sound}
 use Rattle.promises.specs.Keeps.Facts.{SoundTables, tables-test}
 

@@ -13,8 +13,8 @@ use Rattle.words.specs.Copies.{copied}
 use Rattle.logic.specs.Laws.Bools.{and-left, and-right, and-both, or-right}
 use Rattle.words.specs.Laws.Sets.{has-insert}
 use Rattle.tables.specs.View.{isLive, labelAt}
-use Rattle.session.specs.declared.state.Session.{Session}
-use Rattle.session.specs.States.{NONE, RO, RW, ABORTED, isOpen, under, withRecording, withTransaction, withRepositories, withAccess, ended, openedState, session}
+use Rattle.state.specs.declared.state.Session.{Session}
+use Rattle.state.specs.States.{NONE, RO, RW, ABORTED, isOpen, under, withRecording, withTransaction, withRepositories, withAccess, ended, openedState, session}
 use Rattle.session.specs.Sound.{mayAccess}
 use Rattle.promises.specs.Keeps.Facts.{SoundTables}
 use Rattle.promises.specs.Keeps.SessionFacts.{Closed, Sound}

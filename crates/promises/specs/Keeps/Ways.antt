@@ -7,11 +7,11 @@ use Prim.Native.Nat.{ℕ}
 use lib.Dec.{eqb}
 use native.Mathlib.Omega.{arith}
 use borrow.Author.Tests.{eq-eqb, ne-eqb}
-use Rattle.session.specs.declared.state.Session.{Session}
+use Rattle.state.specs.declared.state.Session.{Session}
 use Rattle.session.specs.declared.effects.Effect.{Effect}
-use Rattle.session.specs.Refusals.{SY-ERR, done}
+use Rattle.state.specs.Refusals.{SY-ERR, done}
 use Rattle.session.specs.Operations.{operationOf}
-use Rattle.session.specs.States.{session}
+use Rattle.state.specs.States.{session}
 use Rattle.session.specs.Sound.{sound}
 use Rattle.session.specs.Effects.{workingAfter, keptAfter}
 use Rattle.session.specs.Rows.{refusalOf, effect}

@@ -15,7 +15,7 @@ use Rattle.records.specs.Records.{size, marked, fieldsOf, recordOf}
 use Rattle.records.specs.declared.decoding.Record.{Record}
 use Rattle.records.specs.Lines.{written, after, lineText}
 use Rattle.records.specs.Laws.Writing.{text-written, after-fits}
-use Rattle.session.specs.declared.state.Answer.{Answer}
+use Rattle.state.specs.declared.state.Answer.{Answer}
 use Rattle.session.specs.Step.{Outcome, outcome, core}
 use Rattle.reader.specs.declared.blocks.Run.{Run}
 use Rattle.reader.specs.Blocks.{Here, here, afterCall, afterRecord, stopped, afterFound, afterRecords, afterBytes}

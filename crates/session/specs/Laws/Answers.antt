@@ -5,11 +5,11 @@ use mathlib.Core.Bool.{Bool, true, false, cond, _&&_}
 use mathlib.Core.Logic.{_⊎_, inl, inr}
 use lib.Dec.{eqb}
 use borrow.Author.Tests.{eq-eqb, eqb-true}
-use Rattle.session.specs.declared.state.State.{State}
-use Rattle.session.specs.declared.state.Log.{Log}
-use Rattle.session.specs.declared.state.Session.{Session}
-use Rattle.session.specs.Refusals.{done}
-use Rattle.session.specs.States.{isOpen, event, added, session, noted}
+use Rattle.state.specs.declared.state.State.{State}
+use Rattle.state.specs.declared.state.Log.{Log}
+use Rattle.state.specs.declared.state.Session.{Session}
+use Rattle.state.specs.Refusals.{done}
+use Rattle.state.specs.States.{isOpen, event, added, session, noted}
 use Rattle.session.specs.Step.{answer, logAfter, finishedAnswer}
 use Rattle.session.specs.Quick.Answers.{logOf}
 

@@ -6,10 +6,10 @@ use Prim.Native.Nat.{ℕ}
 use lib.Dec.{eqb}
 use borrow.Author.Tests.{not-true, eq-eqb, ne-eqb}
 use Rattle.logic.specs.Laws.Bools.{and-left, and-right}
-use Rattle.session.specs.Refusals.{done}
+use Rattle.state.specs.Refusals.{done}
 use Rattle.session.specs.declared.operations.Operation.{Operation}
 use Rattle.session.specs.declared.operations.Operation.the-variants.{Unlisted, Opening, InSession, Reader, Writer}
-use Rattle.session.specs.declared.state.State.{State}
+use Rattle.state.specs.declared.state.State.{State}
 use Rattle.session.specs.Checks.{Check, firstOf, gate}
 use Rattle.session.specs.Effects.{refuses}
 use Rattle.session.specs.Rows.{rowOf, checks, refusalOf, performed}

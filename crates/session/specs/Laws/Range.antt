@@ -28,10 +28,10 @@ use Rattle.session.specs.declared.operations.Reader.{Reader}
 use Rattle.session.specs.declared.operations.Reader.the-variants as reader
 use Rattle.session.specs.declared.operations.Writer.{Writer}
 use Rattle.session.specs.declared.operations.Writer.the-variants as writer
-use Rattle.session.specs.declared.state.State.{State}
+use Rattle.state.specs.declared.state.State.{State}
 use Rattle.session.specs.declared.effects.Tables.the-variants.{Changed}
 use Rattle.session.specs.declared.effects.Effect.{Effect}
-use Rattle.session.specs.Refusals.{FN-NAVL, NO-ROOM, REMAINING, done, _on_, numberIn, placeIn, roomOf}
+use Rattle.state.specs.Refusals.{FN-NAVL, NO-ROOM, REMAINING, done, _on_, numberIn, placeIn, roomOf}
 use Rattle.session.specs.Checks.{Check, firstOf, gate}
 use Rattle.session.specs.Effects.{does, refuses, full, unlessRefused, created}
 use Rattle.session.specs.Rows.{Row, _then_, writing, referring, sessionRow, readerRow, writerRow, rowOf, checks, effect, refusalOf, performed}

@@ -24,9 +24,9 @@ use Rattle.tables.specs.View.{labelAt}
 use Rattle.tables.specs.Sound.{distinct, soundGroup, soundEntries, soundInstances, soundTable, soundTables}
 use Rattle.logic.specs.Laws.Search.{all-from, all-same, all-both}
 use Rattle.tables.specs.Laws.Live.{has-and, within-by-and}
-use Rattle.session.specs.declared.state.Event.{Event}
-use Rattle.session.specs.declared.state.State.{State}
-use Rattle.session.specs.States.{places, blankEvent}
+use Rattle.state.specs.declared.state.Event.{Event}
+use Rattle.state.specs.declared.state.State.{State}
+use Rattle.state.specs.States.{places, blankEvent}
 use Rattle.session.specs.Sound.{soundEvent, isBlank, soundPlace, soundPlaces, maySee, soundAccess}
 use Rattle.session.specs.Quick.Access.{isSeen, seenAt, inOpen}
 

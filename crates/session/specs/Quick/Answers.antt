@@ -2,11 +2,11 @@
 use Prim.Native.Nat.{ℕ}
 use mathlib.Core.Bool.{cond}
 use lib.Dec.{eqb}
-use Rattle.session.specs.declared.state.State.{State}
-use Rattle.session.specs.declared.state.Log.{Log}
-use Rattle.session.specs.declared.state.Session.{Session}
-use Rattle.session.specs.Refusals.{done}
-use Rattle.session.specs.States.{noted}
+use Rattle.state.specs.declared.state.State.{State}
+use Rattle.state.specs.declared.state.Log.{Log}
+use Rattle.state.specs.declared.state.Session.{Session}
+use Rattle.state.specs.Refusals.{done}
+use Rattle.state.specs.States.{noted}
 use Rattle.session.specs.Step.{logAfter}
 
 abbrev pub logOf : ℕ → ℕ → Session → State → Log

@@ -2,7 +2,7 @@
 use Prim.Native.Nat.{ℕ}
 use mathlib.Core.Bool.{true}
 use mathlib.Core.List.{List, [], _∷_}
-use Rattle.session.specs.declared.state.State.{State}
+use Rattle.state.specs.declared.state.State.{State}
 use Rattle.session.specs.declared.effects.Effect.{Effect}
 use Rattle.session.specs.Checks.{Check, _gives_, firstOf}
 use Rattle.session.specs.Effects.{unlessRefused}

@@ -1,9 +1,9 @@
 -- What is performed, what becomes of the tables and the answer are those of the definition, each by its function's contract.
 use mathlib.Core.Path.{_≡_, ap}
 use mathlib.Core.Logic.{_⊎_, inl, inr}
-use Rattle.session.specs.declared.state.State.{State}
+use Rattle.state.specs.declared.state.State.{State}
 use Rattle.session.specs.declared.effects.Effect.{Effect}
-use Rattle.session.specs.Refusals.{done}
+use Rattle.state.specs.Refusals.{done}
 use Rattle.session.specs.Laws.Range.{Refused, done-or-refused}
 use Rattle.session.specs.Step.{core}
 use borrow.Author.Needs.{needs}

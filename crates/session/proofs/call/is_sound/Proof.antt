@@ -3,7 +3,7 @@ use mathlib.Core.Path.{_≡_, sym, _∙_}
 use mathlib.Core.Bool.{Bool, true, false}
 use borrow.Author.Tests.{not-true, not-false}
 use Rattle.tables.specs.Sound.{soundTables}
-use Rattle.session.specs.States.{RW, under}
+use Rattle.state.specs.States.{RW, under}
 use Rattle.session.specs.Laws.Sound.{sound-long, sound-labels}
 use Rattle.session.specs.Sound.{sound}
 use borrow.Author.Needs.{needs}

@@ -10,8 +10,8 @@ use borrow.Author.Tests.{not-true, not-false}
 use lib.ListN.{getD}
 use Rattle.logic.specs.Search.{allB}
 use Rattle.logic.specs.Laws.Search.{all-more, all-stop, all-done}
-use Rattle.session.specs.declared.state.Event.{Event}
-use Rattle.session.specs.States.{places, blankEvent}
+use Rattle.state.specs.declared.state.Event.{Event}
+use Rattle.state.specs.States.{places, blankEvent}
 use Rattle.session.specs.Sound.{soundPlace}
 use Rattle.session.specs.Laws.Sound.{by-places, used-place, unused-place}
 use Rattle.session.proofs.sound.sound_places.Statement.{statement}

@@ -5,11 +5,11 @@ use mathlib.Core.List.{List, [], _∷_, _++_}
 use lib.Dec.{eqb, ltb}
 use lib.ListN.{set, drop, replicate}
 use Rattle.words.specs.Sets.{none, has, insert}
-use Rattle.session.specs.declared.state.State.{State}
-use Rattle.session.specs.declared.state.Event.{Event}
-use Rattle.session.specs.declared.state.Log.{Log}
-use Rattle.session.specs.declared.state.Session.{Session}
-use Rattle.session.specs.Refusals.{numberIn, placeIn}
+use Rattle.state.specs.declared.state.State.{State}
+use Rattle.state.specs.declared.state.Event.{Event}
+use Rattle.state.specs.declared.state.Log.{Log}
+use Rattle.state.specs.declared.state.Session.{Session}
+use Rattle.state.specs.Refusals.{numberIn, placeIn}
 
 -- the transaction
 abbrev pub NONE : ℕ

@@ -2,8 +2,8 @@
 use Prim.Native.Nat.{ℕ, zero, suc}
 use mathlib.Core.List.{List}
 use lib.ListN.{set, getD}
-use Rattle.session.specs.declared.state.Event.{Event}
-use Rattle.session.specs.States.{blankEvent}
+use Rattle.state.specs.declared.state.Event.{Event}
+use Rattle.state.specs.States.{blankEvent}
 
 -- the first i places from one place on in l, the others as in `rest`
 unfoldable pub movedOn : ℕ → List Event → List Event → List Event

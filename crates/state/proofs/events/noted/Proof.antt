@@ -3,8 +3,8 @@ use mathlib.Core.Path.{sym, ap, _∙_}
 use mathlib.Core.Bool.{Bool, _&&_}
 use lib.Dec.{eqb}
 use borrow.Author.Needs.{needs}
-use Rattle.session.proofs.events.noted.Statement.{statement}
-use Rattle.session.proofs.events.noted.Tie as tie
+use Rattle.state.proofs.events.noted.Statement.{statement}
+use Rattle.state.proofs.events.noted.Tie as tie
 
 returns : tie.Need-returns
 returns c =

@@ -1,6 +1,6 @@
 // The refusals, by the standard's names, and the places that they name. 0 is done, on no place.
 ghost use mathlib.Core.Path.{_≡_};
-ghost use Rattle.session.specs.Refusals.{_on_, numberIn, placeIn, roomOf};
+ghost use Rattle.state.specs.Refusals.{_on_, numberIn, placeIn, roomOf};
 use words::layout::Kind;
 
 pub const DONE: u32 = 0;

@@ -6,11 +6,11 @@ use native.Mathlib.Omega.{arith}
 use native.Mathlib.Numerals.{add-one}
 use borrow.Author.Tests.{lt-ltb, le-ltb}
 use borrow.Author.Needs.{needs}
-use Rattle.session.specs.States.{log}
-use Rattle.session.specs.Quick.Events.{movedOn}
-use Rattle.session.specs.Laws.Events.{all-moved}
-use Rattle.session.proofs.events.added.Statement.{statement}
-use Rattle.session.proofs.events.added.Tie as tie
+use Rattle.state.specs.States.{log}
+use Rattle.state.specs.Quick.Events.{movedOn}
+use Rattle.state.specs.Laws.Events.{all-moved}
+use Rattle.state.proofs.events.added.Statement.{statement}
+use Rattle.state.proofs.events.added.Tie as tie
 
 abbrev Inv-loop : tie.InvT-loop
 Inv-loop n before events₀ i₀ events i = (i ≤ 15) × (events ≡ movedOn i before events₀)

@@ -1,7 +1,7 @@
 // A session, as a caller holds it between calls: integers alone, every bit pattern a value, and the test of soundness
 // judges each.
 ghost use mathlib.Core.Path.{_≡_};
-ghost use Rattle.session.specs.States.{isOpen, under as isUnder, withRecording, withTransaction, withRepositories, withAccess, woken as wokenIn, ended as endedState, closedState, openedState};
+ghost use Rattle.state.specs.States.{isOpen, under as isUnder, withRecording, withTransaction, withRepositories, withAccess, woken as wokenIn, ended as endedState, closedState, openedState};
 use words::sets::EMPTY;
 use words::sets::has;
 use words::sets::with;

@@ -1,8 +1,8 @@
 -- The RW set has the model, and all stays; or the RO set gets it.
 use mathlib.Core.Path.{sym, _∙_}
 use borrow.Author.Needs.{needs}
-use Rattle.session.proofs.state.woken.Statement.{statement}
-use Rattle.session.proofs.state.woken.Tie as tie
+use Rattle.state.proofs.state.woken.Statement.{statement}
+use Rattle.state.proofs.state.woken.Tie as tie
 
 returns : tie.Need-returns
 returns c = rw (sym (c .before .has .ensures) ∙ c .if1 .taken)

@@ -1,7 +1,7 @@
 -- Both parts by their functions' contracts.
 use borrow.Author.Needs.{needs}
-use Rattle.session.proofs.state.ended.Statement.{statement}
-use Rattle.session.proofs.state.ended.Tie as tie
+use Rattle.state.proofs.state.ended.Statement.{statement}
+use Rattle.state.proofs.state.ended.Tie as tie
 
 returns : tie.Need-returns
 returns c = rw (c .with-transaction .ensures, c .before .with-access .ensures)

@@ -6,11 +6,11 @@ use Prim.Native.Nat.{ℕ}
 use native.Mathlib.Omega.{arith}
 use lib.Dec.{eqb}
 use lib.ListN.{length, replicate}
-use Rattle.session.specs.declared.state.Event.{Event}
-use Rattle.session.specs.declared.state.Session.{Session}
-use Rattle.session.specs.Refusals.{_on_, numberIn, placeIn}
-use Rattle.session.specs.States.{isOpen, places, event, shifted, added, session, noted}
-use Rattle.session.specs.Quick.Events.{movedOn}
+use Rattle.state.specs.declared.state.Event.{Event}
+use Rattle.state.specs.declared.state.Session.{Session}
+use Rattle.state.specs.Refusals.{_on_, numberIn, placeIn}
+use Rattle.state.specs.States.{isOpen, places, event, shifted, added, session, noted}
+use Rattle.state.specs.Quick.Events.{movedOn}
 
 -- sixteen events one place on, place by place, and the new one last
 pub all-moved : (l : List Event) (e : Event) → length l ≡ places → movedOn 15 l (replicate places e) ≡ shifted l e

@@ -1,6 +1,6 @@
 // The log of events. This is the one place that adds an event.
 ghost use mathlib.Core.Path.{_≡_};
-ghost use Rattle.session.specs.States.{log, added as addedTo, blankLog, session, noted as notedIn};
+ghost use Rattle.state.specs.States.{log, added as addedTo, blankLog, session, noted as notedIn};
 use crate::refusals::number_in;
 use crate::refusals::place_in;
 use crate::state::Event;

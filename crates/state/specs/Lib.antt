@@ -1,0 +1,4 @@
+pub mod Refusals
+pub mod States
+pub mod Quick
+pub mod Laws
