@@ -141,9 +141,9 @@ typedef struct chip_session {
 
 /* What a call answers. A refusal has value 0 and has changed no word of a table.
  *
- * Beside edition 1: `place` is new, here and in an event, and stands in the upper half of what was the refusal, which has two
- * bytes here and one in an event. Nothing else has moved, so the bytes of a sound session of edition 1 are a sound one here,
- * with place 0 in every event. Code that was compiled for edition 1 has to be compiled again. */
+ * Beside edition 1: `place` is new, here and in an event. It has taken bytes of the refusal, which had four: both have two
+ * here and one in an event. Nothing else has moved, so the bytes of a sound session of edition 1 are a sound one here, with
+ * place 0 in every event. Code that was compiled for edition 1 has to be compiled again. */
 typedef struct chip_answer {
     uint16_t refusal; /* CHIP_DONE or one of the refusals below */
     uint16_t place;   /* what the refusal is about: one of the places below */

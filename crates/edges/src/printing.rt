@@ -107,10 +107,10 @@ fn event(e: Event) {
 
 // The events of a full log, the oldest first.
 pub fn events(log: Log) {
-    let places = log.events;
+    let slots = log.events;
     let mut i: usize = 0;
     while i < 16 {
-        let e = places[i];
+        let e = slots[i];
         event(e);
         i += 1;
     }

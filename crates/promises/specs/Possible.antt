@@ -8,7 +8,7 @@ use Rattle.logic.specs.Search.{allIn}
 use Rattle.state.specs.declared.state.State.{State}
 use Rattle.state.specs.declared.state.Event.{Event}
 use Rattle.state.specs.declared.state.Log.{Log}
-use Rattle.state.specs.States.{places}
+use Rattle.state.specs.States.{slots}
 use Rattle.session.specs.Runs.{Call, Chip, Machine, afterBy}
 
 abbrev pub fits8 : ℕ → Bool
@@ -33,7 +33,7 @@ abbrev pub eventFits : Event → Bool
 eventFits e = fits32 (e .op) && fits8 (e .refusal) && fits8 (e .place) && fits16 (e .unused)
 
 abbrev pub logFits : Log → Bool
-logFits l = fits64 (l .count) && eqb (length (l .events)) places && allIn eventFits (l .events)
+logFits l = fits64 (l .count) && eqb (length (l .events)) slots && allIn eventFits (l .events)
 
 -- this call on this chip; that the third argument is below 2^32 is part of every call
 unfoldable pub possible : Chip → Call → Bool

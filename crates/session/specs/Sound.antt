@@ -15,7 +15,7 @@ use Rattle.state.specs.declared.state.Event.{Event}
 use Rattle.state.specs.declared.state.Log.{Log}
 use Rattle.state.specs.declared.state.Session.{Session}
 use Rattle.state.specs.Refusals.{FN-NAVL, NO-ROOM, REMAINING}
-use Rattle.state.specs.States.{NONE, RO, RW, ABORTED, isOpen, under, places, blankEvent}
+use Rattle.state.specs.States.{NONE, RO, RW, ABORTED, isOpen, under, slots, blankEvent}
 
 -- an event may have any number, any refusal but SY_ERR, and any place with it; one that is not used is blank
 abbrev pub soundEvent : Event → Bool
@@ -24,14 +24,14 @@ soundEvent e = leb FN-NAVL (e .refusal) && leb (e .refusal) NO-ROOM && leb (e .p
 abbrev pub isBlank : Event → Bool
 isBlank e = eqb (e .op) 0 && eqb (e .refusal) 0 && eqb (e .place) 0
 
-abbrev pub soundPlace : ℕ → ℕ → Event → Bool
-soundPlace count i e = cond (ltb i count) (soundEvent e) (isBlank e)
+abbrev pub soundSlot : ℕ → ℕ → Event → Bool
+soundSlot count i e = cond (ltb i count) (soundEvent e) (isBlank e)
 
-unfoldable pub soundPlaces : ℕ → List Event → Bool
-soundPlaces count events = eqb (length events) places && allB places (λ i. soundPlace count i (getD events i blankEvent))
+unfoldable pub soundSlots : ℕ → List Event → Bool
+soundSlots count events = eqb (length events) slots && allB slots (λ i. soundSlot count i (getD events i blankEvent))
 
 unfoldable pub soundLog : Log → Bool
-soundLog l = leb (l .count) places && soundPlaces (l .count) (l .events)
+soundLog l = leb (l .count) slots && soundSlots (l .count) (l .events)
 
 -- access is RO or RW and never both, and to live models of the working table whose repository is open
 abbrev pub mayAccess : List ℕ → State → ℕ → Bool

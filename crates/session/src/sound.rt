@@ -7,10 +7,10 @@ ghost use Rattle.words.specs.declared.layout.Kind.the-variants.{Model};
 ghost use Rattle.words.specs.Layout.{words};
 ghost use Rattle.words.specs.Entries.{formed, allFormed};
 ghost use Rattle.words.specs.Sets.{insert};
-ghost use Rattle.state.specs.States.{places};
-ghost use Rattle.session.specs.Sound.{soundEvent, isBlank, soundPlaces, soundLog, soundAccess, soundTransaction, soundOpen, soundSession};
+ghost use Rattle.state.specs.States.{slots};
+ghost use Rattle.session.specs.Sound.{soundEvent, isBlank, soundSlots, soundLog, soundAccess, soundTransaction, soundOpen, soundSession};
 ghost use Rattle.session.specs.Quick.Access.{isSeen, inOpen};
-use state::events::PLACES;
+use state::events::SLOTS;
 use state::refusals;
 use state::state::ABORTED;
 use state::state::Event;
@@ -41,10 +41,10 @@ fn is_blank(e: Event) -> bool
     (e.op == 0) & (e.refusal == 0) & (e.place == 0)
 }
 
-// The first `count` places hold events, the others are blank.
-fn sound_places(count: u64, events: [Event; 16]) -> bool
-    requires { ⌜ count ≤ places ⌝ }
-    ensures { λ r. ⌜ r ≡ soundPlaces count events ⌝ }
+// The first `count` slots hold events, the others are blank.
+fn sound_slots(count: u64, events: [Event; 16]) -> bool
+    requires { ⌜ count ≤ slots ⌝ }
+    ensures { λ r. ⌜ r ≡ soundSlots count events ⌝ }
 {
     let mut i = 0;
     while i < count {
@@ -54,7 +54,7 @@ fn sound_places(count: u64, events: [Event; 16]) -> bool
         }
         i += 1;
     }
-    while i < PLACES {
+    while i < SLOTS {
         let e = events[i as usize];
         if !is_blank(e) {
             return false;
@@ -69,10 +69,10 @@ fn sound_log(l: Log) -> bool
 {
     let count = l.count;
     let events = l.events;
-    if PLACES < count {
+    if SLOTS < count {
         return false;
     }
-    sound_places(count, events)
+    sound_slots(count, events)
 }
 
 // The label of a live model whose repository is open. The label is known to be sound, so its repository needs no test.

@@ -62,9 +62,10 @@ openedState = record { opened = 1; recording = 1; transaction = NONE; repositori
 -- ---- events
 
 -- so many events at most
-abbrev pub places : ℕ
-places = 16
+abbrev pub slots : ℕ
+slots = 16
 
+-- a refusal on its place, and the operation that it was given to; two bytes of an event are not used, and nothing asks for them
 abbrev pub event : ℕ → ℕ → Event
 event op refusal = record { op = op; refusal = numberIn refusal; place = placeIn refusal; unused = 0 }
 
@@ -75,14 +76,14 @@ abbrev pub log : ℕ → List Event → Log
 log n events = record { count = n; events = events }
 
 abbrev pub blankLog : Log
-blankLog = log 0 (replicate places blankEvent)
+blankLog = log 0 (replicate slots blankEvent)
 
 -- one event more; of sixteen the oldest goes
 abbrev pub shifted : List Event → Event → List Event
 shifted events e = drop 1 events ++ (e ∷ [])
 
 abbrev pub added : Log → Event → Log
-added l e = cond (ltb (l .count) places) (log (l .count + 1) (set (l .events) (l .count) e)) (log (l .count) (shifted (l .events) e))
+added l e = cond (ltb (l .count) slots) (log (l .count + 1) (set (l .events) (l .count) e)) (log (l .count) (shifted (l .events) e))
 
 abbrev pub session : State → Log → Session
 session s l = record { state = s; log = l }

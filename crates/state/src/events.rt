@@ -9,9 +9,9 @@ use crate::state::State;
 use crate::state::is_open;
 
 // How many events a log holds.
-pub const PLACES: u64 = 16;
+pub const SLOTS: u64 = 16;
 
-// The place of the newest event of a full log.
+// The slot of the newest event of a full log.
 const LAST: usize = 15;
 
 pub fn blank_log() -> Log
@@ -29,12 +29,12 @@ pub fn blank_log() -> Log
 }
 
 // With one event more behind the first n; of sixteen the oldest drops out. One array is filled either way, and moved in a
-// loop, not named place by place: so the compiler keeps the events in memory and copies them in few moves.
+// loop, not named one by one: so the compiler keeps the events in memory and copies them in few moves.
 fn added(before: [Event; 16], n: u64, e: Event) -> Log
     ensures { λ r. ⌜ r ≡ addedTo (log n before) e ⌝ }
 {
     let mut events = [e; 16];
-    if n < PLACES {
+    if n < SLOTS {
         events = before;
         events[n as usize] = e;
         return Log {

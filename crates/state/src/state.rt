@@ -36,7 +36,7 @@ pub struct Event {
     pub unused: u16,
 }
 
-// The events that are recorded, oldest first: the first `count` places.
+// The events that are recorded, oldest first: the first `count` slots.
 #[repr(C)]
 pub struct Log {
     pub events: [Event; 16],

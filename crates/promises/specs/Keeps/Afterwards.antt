@@ -17,7 +17,7 @@ use Rattle.state.specs.declared.state.State.{State}
 use Rattle.state.specs.declared.state.Log.{Log}
 use Rattle.state.specs.declared.state.Session.{Session}
 use Rattle.state.specs.States.{NONE, RO, RW, ABORTED, isOpen, under, closedState, blankLog, session}
-use Rattle.session.specs.Sound.{soundPlaces, soundLog, mayAccess}
+use Rattle.session.specs.Sound.{soundSlots, soundLog, mayAccess}
 use Rattle.session.specs.declared.effects.Tables.the-variants.{Stay, Commit, Drop}
 use Rattle.session.specs.Effects.{workingAfter, keptAfter, ifWriting}
 use Rattle.session.specs.Step.{logAfter}
@@ -34,7 +34,7 @@ no-access w s ro rw′ m = record {
 
 -- a closed session is sound
 pub closed-sound : (w : List ℕ) → SoundSession w (session closedState blankLog)
-unfolding soundLog soundPlaces allB
+unfolding soundLog soundSlots allB
 closed-sound w = record {
   closed = λ e. record { opened = refl; recording = refl; transaction = refl; repositories = refl; count = refl };
   recording = omega arith;

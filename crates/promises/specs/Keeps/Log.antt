@@ -12,7 +12,7 @@ use borrow.Author.Tests.{ltb-true, ltb-false, lt-ltb, le-ltb}
 use Rattle.state.specs.declared.state.Event.{Event}
 use Rattle.state.specs.declared.state.Log.{Log}
 use Rattle.state.specs.declared.state.Session.{Session}
-use Rattle.state.specs.States.{isOpen, places, event, blankEvent, log, added, session, noted}
+use Rattle.state.specs.States.{isOpen, slots, event, blankEvent, log, added, session, noted}
 use Rattle.session.specs.Sound.{soundEvent}
 use Rattle.logic.specs.Laws.Bools.{clash}
 use Rattle.session.specs.Laws.Range.{Refusing, refusing-test}
@@ -20,8 +20,8 @@ use Rattle.promises.specs.Keeps.Frame.{same-or-not}
 use Rattle.promises.specs.Keeps.SessionFacts.{SoundLog, Sound}
 
 module _ (l : Log) (e : Event) (h : SoundLog l) (good : soundEvent e ≡ true) where
-  -- an event in the next place
-  one-more : l .count < places → SoundLog (log (l .count + 1) (set (l .events) (l .count) e))
+  -- an event in the next slot
+  one-more : l .count < slots → SoundLog (log (l .count + 1) (set (l .events) (l .count) e))
   one-more room = record {
     few = omega arith;
     size = length-set (l .events) (l .count) e ∙ h .size;
@@ -31,13 +31,13 @@ module _ (l : Log) (e : Event) (h : SoundLog l) (good : soundEvent e ≡ true) w
         rw (getD-set-other (l .events) (l .count) i e blankEvent (λ q. omega (arith, behind))) (h .blank i b (le-ltb i (l .count) (omega (arith, behind))));
   }
     where
-      used : (i : ℕ) → i < places → (i ≡ l .count) ⊎ (i ≡ l .count → ⊥) → i < l .count + 1
+      used : (i : ℕ) → i < slots → (i ≡ l .count) ⊎ (i ≡ l .count → ⊥) → i < l .count + 1
           → soundEvent (getD (set (l .events) (l .count) e) i blankEvent) ≡ true
       used i b (inl q) u = rw (q, getD-set-same (l .events) (l .count) e blankEvent (omega (arith, h .size))) good
       used i b (inr q) u = rw (getD-set-other (l .events) (l .count) i e blankEvent q) (h .used i b (lt-ltb i (l .count) (omega arith)))
 
   -- the oldest drops out
-  pushed : places ≤ l .count → SoundLog (log (l .count) (drop 1 (l .events) ++ (e ∷ [])))
+  pushed : slots ≤ l .count → SoundLog (log (l .count) (drop 1 (l .events) ++ (e ∷ [])))
   pushed full = record {
     few = h .few;
     size = length-append (drop 1 (l .events)) (e ∷ []) ∙ omega (arith, shorter);
@@ -48,16 +48,16 @@ module _ (l : Log) (e : Event) (h : SoundLog l) (good : soundEvent e ≡ true) w
       shorter : length (drop 1 (l .events)) ≡ 15
       shorter = length-drop 1 (l .events) ∙ omega (arith, h .size)
 
-      used : (i : ℕ) → i < places → (i ≡ 15) ⊎ (i ≡ 15 → ⊥) → soundEvent (getD (drop 1 (l .events) ++ (e ∷ [])) i blankEvent) ≡ true
+      used : (i : ℕ) → i < slots → (i ≡ 15) ⊎ (i ≡ 15 → ⊥) → soundEvent (getD (drop 1 (l .events) ++ (e ∷ [])) i blankEvent) ≡ true
       used i b (inl q) = rw (getD-at (drop 1 (l .events)) e [] blankEvent i (shorter ∙ sym q)) good
       used i b (inr q) =
           rw (List·getD-append (drop 1 (l .events)) (e ∷ []) blankEvent i (omega (arith, shorter)), getD-drop 1 (l .events) i blankEvent)
           (h .used (1 + i) (omega arith) (lt-ltb (1 + i) (l .count) (omega arith)))
 
   added-sound : SoundLog (added l e)
-  added-sound = by-cases (ltb (l .count) places) refl
+  added-sound = by-cases (ltb (l .count) slots) refl
     where
-      by-cases : (b : Bool) → ltb (l .count) places ≡ b
+      by-cases : (b : Bool) → ltb (l .count) slots ≡ b
           → SoundLog (cond b (log (l .count + 1) (set (l .events) (l .count) e)) (log (l .count) (drop 1 (l .events) ++ (e ∷ []))))
       by-cases true q = one-more (ltb-true _ _ q)
       by-cases false q = pushed (ltb-false _ _ q)

@@ -10,23 +10,23 @@ use Rattle.logic.specs.Laws.Decides.{Decides, both, equal, less, at-most, every
 use Rattle.state.specs.declared.state.State.{State}
 use Rattle.state.specs.declared.state.Log.{Log}
 use Rattle.state.specs.declared.state.Session.{Session}
-use Rattle.state.specs.States.{NONE, RO, RW, ABORTED, isOpen, under, places, blankEvent}
-use Rattle.session.specs.Sound.{soundEvent, isBlank, soundPlaces, soundLog, mayAccess, soundAccess, soundTransaction, soundOpen, soundSession, sound}
+use Rattle.state.specs.States.{NONE, RO, RW, ABORTED, isOpen, under, slots, blankEvent}
+use Rattle.session.specs.Sound.{soundEvent, isBlank, soundSlots, soundLog, mayAccess, soundAccess, soundTransaction, soundOpen, soundSession, sound}
 use Rattle.promises.specs.Keeps.Facts.{SoundTables, tables-test}
 
 pub record SoundLog (l : Log) : Type 0 where
-  pub few : l .count ≤ places
-  pub size : length (l .events) ≡ places
-  pub used : (i : ℕ) → i < places → ltb i (l .count) ≡ true → soundEvent (getD (l .events) i blankEvent) ≡ true
-  pub blank : (i : ℕ) → i < places → ltb i (l .count) ≡ false → isBlank (getD (l .events) i blankEvent) ≡ true
+  pub few : l .count ≤ slots
+  pub size : length (l .events) ≡ slots
+  pub used : (i : ℕ) → i < slots → ltb i (l .count) ≡ true → soundEvent (getD (l .events) i blankEvent) ≡ true
+  pub blank : (i : ℕ) → i < slots → ltb i (l .count) ≡ false → isBlank (getD (l .events) i blankEvent) ≡ true
 
 pub log-test : (l : Log) → Decides (soundLog l) (SoundLog l)
-unfolding soundLog soundPlaces
+unfolding soundLog soundSlots
 log-test l =
     restated
-    (both _ _ (at-most (l .count) places)
-    (both _ _ (equal (length (l .events)) places)
-    (every places _ _ (λ i. choice (ltb i (l .count)) _ _ (itself (soundEvent (getD (l .events) i blankEvent))) (itself (isBlank (getD (l .events) i blankEvent)))))))
+    (both _ _ (at-most (l .count) slots)
+    (both _ _ (equal (length (l .events)) slots)
+    (every slots _ _ (λ i. choice (ltb i (l .count)) _ _ (itself (soundEvent (getD (l .events) i blankEvent))) (itself (isBlank (getD (l .events) i blankEvent)))))))
     (λ h. record { few = h .0; size = h .1 .0; used = λ i b. h .1 .1 i b .0; blank = λ i b. h .1 .1 i b .1 })
     (λ h. (h .few, (h .size, λ i b. (h .used i b, h .blank i b))))
 

@@ -26,8 +26,8 @@ use Rattle.logic.specs.Laws.Search.{all-from, all-same, all-both}
 use Rattle.tables.specs.Laws.Live.{has-and, within-by-and}
 use Rattle.state.specs.declared.state.Event.{Event}
 use Rattle.state.specs.declared.state.State.{State}
-use Rattle.state.specs.States.{places, blankEvent}
-use Rattle.session.specs.Sound.{soundEvent, isBlank, soundPlace, soundPlaces, maySee, soundAccess}
+use Rattle.state.specs.States.{slots, blankEvent}
+use Rattle.session.specs.Sound.{soundEvent, isBlank, soundSlot, soundSlots, maySee, soundAccess}
 use Rattle.session.specs.Quick.Access.{isSeen, seenAt, inOpen}
 
 -- sound tables are long
@@ -37,17 +37,17 @@ sound-long writing working kept h = at-most words (length working) .holds (and-l
 
 -- ---- the log
 
--- a place with an event, and one behind the last event
-pub used-place : (count i : ℕ) (e : Event) → i < count → soundPlace count i e ≡ soundEvent e
-used-place count i e l = rw (lt-ltb i count l)
+-- a slot with an event, and one behind the last event
+pub used-slot : (count i : ℕ) (e : Event) → i < count → soundSlot count i e ≡ soundEvent e
+used-slot count i e l = rw (lt-ltb i count l)
 
-pub unused-place : (count i : ℕ) (e : Event) → count ≤ i → soundPlace count i e ≡ isBlank e
-unused-place count i e l = rw (le-ltb i count l)
+pub unused-slot : (count i : ℕ) (e : Event) → count ≤ i → soundSlot count i e ≡ isBlank e
+unused-slot count i e l = rw (le-ltb i count l)
 
--- sixteen places, each by itself
-pub by-places : (count : ℕ) (events : List Event) → length events ≡ places → soundPlaces count events ≡ allB places (λ i. soundPlace count i (getD events i blankEvent))
-unfolding soundPlaces
-by-places count events n = rw (eq-eqb (length events) places n)
+-- sixteen slots, each by itself
+pub by-slots : (count : ℕ) (events : List Event) → length events ≡ slots → soundSlots count events ≡ allB slots (λ i. soundSlot count i (getD events i blankEvent))
+unfolding soundSlots
+by-slots count events n = rw (eq-eqb (length events) slots n)
 
 -- ---- the access sets
 

@@ -1,4 +1,4 @@
--- The log: sixteen events, one place on, and an event added, by what its answer tells.
+-- The log: sixteen events, one slot on, and an event added, by what its answer tells.
 use mathlib.Core.Path.{_≡_, refl, ap}
 use mathlib.Core.List.{List, [], _∷_}
 use mathlib.Core.Bool.{cond, _&&_}
@@ -9,11 +9,11 @@ use lib.ListN.{length, replicate}
 use Rattle.state.specs.declared.state.Event.{Event}
 use Rattle.state.specs.declared.state.Session.{Session}
 use Rattle.state.specs.Refusals.{_on_, numberIn, placeIn}
-use Rattle.state.specs.States.{isOpen, places, event, shifted, added, session, noted}
+use Rattle.state.specs.States.{isOpen, slots, event, shifted, added, session, noted}
 use Rattle.state.specs.Quick.Events.{movedOn}
 
--- sixteen events one place on, place by place, and the new one last
-pub all-moved : (l : List Event) (e : Event) → length l ≡ places → movedOn 15 l (replicate places e) ≡ shifted l e
+-- sixteen events one slot on, one by one, and the new one last
+pub all-moved : (l : List Event) (e : Event) → length l ≡ slots → movedOn 15 l (replicate slots e) ≡ shifted l e
 unfolding movedOn
 all-moved ([]) e h = absurd (omega arith)
 all-moved (x0 ∷ []) e h = absurd (omega arith)

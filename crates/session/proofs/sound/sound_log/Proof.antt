@@ -1,4 +1,4 @@
--- The count and the places, each by its test.
+-- The count and the slots, each by its test.
 use borrow.Author.Tests.{lt-leb, le-leb}
 use Rattle.session.specs.Sound.{soundLog}
 use borrow.Author.Needs.{needs}
@@ -11,7 +11,7 @@ returns c = rw (lt-leb _ _ (c .if1 .taken))
 
 returns-2 : tie.Need-returns-2
 unfolding soundLog
-returns-2 c = rw (le-leb _ _ (c .before .if1 .left)) (c .sound-places .ensures)
+returns-2 c = rw (le-leb _ _ (c .before .if1 .left)) (c .sound-slots .ensures)
 
 pub sound-log-spec : {M : Type 1} → statement M
 sound-log-spec = tie.close (tie.spec returns (λ c. search needs) returns-2)

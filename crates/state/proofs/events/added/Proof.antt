@@ -1,5 +1,5 @@
--- Below sixteen the event goes to the next place. Else the places passed hold the events one place on, and the last one has
--- the new event from the start; the measure is the places left.
+-- Below sixteen the event goes to the next slot. Else the slots passed hold the events one slot on, and the last one has
+-- the new event from the start; the measure is the slots left.
 use Prim.Native.Nat.{_≤_, _-_}
 use mathlib.Core.Path.{_≡_, refl, ap}
 use native.Mathlib.Omega.{arith}
