@@ -44,23 +44,27 @@ static subject fresh(void)
     return (subject){0};
 }
 
+/* No type has a fourth attribute, so this value of the last instance must be 0. */
+#define LAST_VALUE (CHIP_INSTANCE_AT(CHIP_INSTANCES) - 1)
+
 static subject unsound_at_end_in_rw(void)
 {
     subject on = full_in_rw();
-    on.chip.kept[CHIP_WORDS - 1] = 1;
+    on.chip.kept[LAST_VALUE] = 1;
     return on;
 }
 
 static subject unsound_at_end_in_ro(void)
 {
     subject on = full_in_ro();
-    on.chip.working[CHIP_WORDS - 1] = on.chip.kept[CHIP_WORDS - 1] = 1;
+    on.chip.working[LAST_VALUE] = on.chip.kept[LAST_VALUE] = 1;
     return on;
 }
 
 /* ---- the rows ---- */
 
-/* Instance 122 is a plate, 123 a cavity of another model than that of plate 2, 127 a repair that none refers to. */
+/* Instance 122 is a plate, 123 a cavity of another model than that of plate 2, 127 a repair that none refers to. The cursors
+ * are 0, so what is made again in the last entry is found at the end of a whole round. */
 const task tasks[] = {
     {"get, in RO", full_in_ro, CHIP_DONE, 1, {{CHIP_GET, 122, 2, 0}}},
     {"get, in RW", full_in_rw, CHIP_DONE, 1, {{CHIP_GET, 122, 2, 0}}},
@@ -81,8 +85,8 @@ const task tasks[] = {
     {"FN_NAVL, in RW", full_in_rw, CHIP_FN_NAVL, 1, {{14, 0, 0, 0}}},
     {"EI_NEXS, in RO", full_in_ro, CHIP_EI_NEXS, 1, {{CHIP_GET, 128, 0, 0}}},
     {"EI_NEXS, in RW", full_in_rw, CHIP_EI_NEXS, 1, {{CHIP_GET, 128, 0, 0}}},
-    {"SY_ERR in the last word, in RO", unsound_at_end_in_ro, CHIP_SY_ERR, 1, {{CHIP_GET, 122, 2, 0}}},
-    {"SY_ERR in the last kept word, in RW", unsound_at_end_in_rw, CHIP_SY_ERR, 1, {{CHIP_GET, 122, 2, 0}}},
+    {"SY_ERR in the last value, in RO", unsound_at_end_in_ro, CHIP_SY_ERR, 1, {{CHIP_GET, 122, 2, 0}}},
+    {"SY_ERR in the last kept value, in RW", unsound_at_end_in_rw, CHIP_SY_ERR, 1, {{CHIP_GET, 122, 2, 0}}},
     {"open, close session, fresh", fresh, CHIP_DONE, 2, {{CHIP_OPEN_SESSION, 0, 0, 0}, {CHIP_CLOSE_SESSION, 0, 0, 0}}},
 };
 

@@ -36,9 +36,9 @@
 #include <stdint.h>
 
 /* The edition counts the change requests that are in; 0 is the base. The number is 10000 * major + 100 * minor + patch. */
-#define CHIP_EDITION 2
-#define CHIP_VERSION "0.3.0"
-#define CHIP_VERSION_NUMBER 300
+#define CHIP_EDITION 3
+#define CHIP_VERSION "0.4.0"
+#define CHIP_VERSION_NUMBER 400
 
 #ifdef __cplusplus
 extern "C" {
@@ -51,9 +51,18 @@ extern "C" {
  *   model m              at m            name + 2^32 * repository + 2^40 * schema; 0 if free
  *   schema instance s    at 64 + 2 s     a word like a model's, then a set: bit m says that it has model m
  *   instance i           at 96 + 5 i     1 + type + 2^8 * model + 2^16 * flags, then four values; five zeros if free
+ *   the three cursors    at 736 to 738   of models, schema instances, instances: the number that is tried first
  *
- * Flag k of an instance says that its attribute k is set; the word of an attribute that is not set is 0. */
-#define CHIP_WORDS 736
+ * Flag k of an instance says that its attribute k is set; the word of an attribute that is not set is 0.
+ *
+ * A creation looks for a free number from its cursor on, at 0 again after the last, and takes the first that it meets. Then
+ * the cursor stands one past it, or at 0 after the last. So creations go over all entries in turn, and a number that was
+ * freed comes again when the round reaches it. A deletion moves no cursor; a commit keeps them and an abort brings them back,
+ * like every other word. A cursor that is not below the count of its entries is CHIP_SY_ERR, in either table.
+ *
+ * Beside edition 2: tables had 736 words, and a creation took the lowest free number. A chip of that time is taken with
+ * three words of 0 behind the 736 of each table. */
+#define CHIP_WORDS 739
 
 #define CHIP_REPOSITORIES 8      /* 0 to 7, always known */
 #define CHIP_MODELS 64           /* entries of each kind */
@@ -65,6 +74,10 @@ extern "C" {
 #define CHIP_MODEL_AT(m) (m)
 #define CHIP_SCHEMA_INSTANCE_AT(s) (64 + 2 * (s))
 #define CHIP_INSTANCE_AT(i) (96 + 5 * (i))
+
+#define CHIP_MODEL_CURSOR 736
+#define CHIP_SCHEMA_INSTANCE_CURSOR 737
+#define CHIP_INSTANCE_CURSOR 738
 
 /* ---- the dictionary ----
  *

@@ -8,9 +8,15 @@
 use core::fmt;
 
 /// The edition that this file is for; 0 is the base.
-pub const EDITION: u32 = 2;
+pub const EDITION: u32 = 3;
 /// Words of a table that are in use; a table with fewer is `SY_ERR`.
-pub const WORDS: usize = 736;
+pub const WORDS: usize = 739;
+/// The word of the models' cursor, the number that a creation tries first; include/chip.h says how it moves.
+pub const MODEL_CURSOR: usize = 736;
+/// The word of the schema instances' cursor.
+pub const SCHEMA_INSTANCE_CURSOR: usize = 737;
+/// The word of the instances' cursor.
+pub const INSTANCE_CURSOR: usize = 738;
 /// Events that a session holds at most.
 pub const EVENTS: usize = 16;
 /// Repositories, 0 to 7, always known.

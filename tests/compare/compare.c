@@ -6,6 +6,7 @@
 #include "guarded.h"
 #include "side.h"
 #include "sights.h"
+#include "spots.h"
 #include "triples.h"
 #include "walk.h"
 
@@ -125,12 +126,17 @@ static size_t any_length(dice *d)
     return one_in(d, 4) ? CHIP_WORDS + below(d, 40) : CHIP_WORDS;
 }
 
-static void start_fresh(run *r)
+/* Fresh, at times but for the cursors, which stand anywhere. */
+static void start(run *r)
 {
     static const state fresh;
     state s = fresh;
     s.working_words = any_length(&r->dice);
     s.kept_words = any_length(&r->dice);
+    if (one_in(&r->dice, 2)) {
+        any_cursors(&r->dice, s.working);
+        memcpy(s.kept, s.working, sizeof s.kept);
+    }
     load(&r->walking.library, &s);
     load(&r->walking.model, &s);
 }
@@ -139,16 +145,20 @@ static void step(run *r, walk *w)
 {
     const side *here = &r->walking.model;
     chip_session before = here->session;
+    uint64_t cursors[ENTRY_KINDS];
+    for (int k = 0; k < ENTRY_KINDS; k++)
+        cursors[k] = working_of(here)[entry_kinds[k].cursor];
     call asked = walk_next(w, &before, working_of(here));
     chip_answer answer = ask_both(r, &r->walking, &asked);
-    see(&asked, &before, &answer, working_of(here));
+    see(&asked, &before, cursors, &answer, working_of(here));
 }
 
 static void take_walk(run *r)
 {
     walk w = walk_from(&r->dice);
     r->walks++;
-    start_fresh(r);
+    start(r);
+    begin_walk();
     for (uint32_t left = 200 + below(&r->dice, 5000); left > 0 && !is_over(r); left--) {
         step(r, &w);
         if (one_in(&r->dice, 6) && !is_over(r))

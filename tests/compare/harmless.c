@@ -12,6 +12,30 @@ static int longer_tables(dice *d, state *s)
     return 1;
 }
 
+static int any_sound_cursors(dice *d, uint64_t *table, uint64_t access)
+{
+    (void)access;
+    any_cursors(d, table);
+    return 1;
+}
+
+static int last_cursors(dice *d, uint64_t *table, uint64_t access)
+{
+    (void)d;
+    (void)access;
+    for (int k = 0; k < ENTRY_KINDS; k++)
+        table[entry_kinds[k].cursor] = entry_kinds[k].count - 1;
+    return 1;
+}
+
+static int cursors_that_differ(dice *d, state *s)
+{
+    settle(s, CHIP_RW);
+    any_cursors(d, s->working);
+    any_cursors(d, s->kept);
+    return 1;
+}
+
 static int any_sound_events(dice *d, state *s)
 {
     fill_events(d, s, below(d, CHIP_EVENTS + 1));
@@ -131,7 +155,10 @@ static int assembly_of_itself(dice *d, uint64_t *table, uint64_t access)
 }
 
 const damage harmless_changes[] = {
-    {"words from 736 on", NULL, longer_tables},
+    {"words from 739 on", NULL, longer_tables},
+    {"any sound cursors", any_sound_cursors, NULL},
+    {"cursors at the last numbers", last_cursors, NULL},
+    {"cursors that differ under RW", NULL, cursors_that_differ},
     {"any sound events", NULL, any_sound_events},
     {"anything in the last two bytes of every event", NULL, bytes_behind_events},
     {"anything in the last four bytes of the session", NULL, bytes_behind_session},

@@ -2,6 +2,8 @@
 #include "damage.h"
 #include "guarded.h"
 
+#include "../model/entry_kinds.h"
+
 #include <string.h>
 
 static uint64_t *any_word(dice *d, state *s)
@@ -106,6 +108,17 @@ static int sparse_tables(dice *d, state *s)
     return 1;
 }
 
+/* Each within its range or just beyond. */
+static int near_cursors(dice *d, state *s)
+{
+    for (int k = 0; k < ENTRY_KINDS; k++) {
+        uint64_t *working = s->working + entry_kinds[k].cursor, *kept = s->kept + entry_kinds[k].cursor;
+        *working = any_entry(d, entry_kinds[k].count + (uint32_t)one_in(d, 4));
+        *kept = one_in(d, 4) ? any_entry(d, entry_kinds[k].count + 1) : *working;
+    }
+    return 1;
+}
+
 static int any_lengths(dice *d, state *s)
 {
     s->working_words = below(d, MOST_WORDS + 1);
@@ -113,7 +126,7 @@ static int any_lengths(dice *d, state *s)
     return 1;
 }
 
-static int lengths_about_736(dice *d, state *s)
+static int lengths_about_739(dice *d, state *s)
 {
     s->working_words = CHIP_WORDS - 1 + below(d, 3);
     s->kept_words = CHIP_WORDS - 1 + below(d, 3);
@@ -129,6 +142,7 @@ const damage noises[] = {
     {"random tables", NULL, wild_tables},
     {"random tables of few entries", NULL, sparse_tables},
     {"random lengths", NULL, any_lengths},
-    {"lengths about 736", NULL, lengths_about_736},
+    {"cursors near sound ones", NULL, near_cursors},
+    {"lengths about 739", NULL, lengths_about_739},
     {NULL, NULL, NULL},
 };

@@ -1,15 +1,28 @@
 #include "sights.h"
 
 #include "../model/dictionary.h"
+#include "../model/entry_kinds.h"
 
 #include <stdio.h>
+
+#define NO_NUMBER UINT32_MAX
+
+/* What a walk remembers of the calls so far. */
+typedef struct memory {
+    uint64_t woken;                /* models whose access a read gave */
+    uint32_t pending[ENTRY_KINDS]; /* the number that was given first since the last commit or drop */
+    uint32_t dropped[ENTRY_KINDS]; /* the one of these that a drop took back, until another is given */
+    uint32_t dropped_by[ENTRY_KINDS];
+} memory;
 
 typedef struct view {
     const call *asked;
     const chip_session *before;
+    const uint64_t *cursors;
     const chip_answer *answer;
     const uint64_t *working;
-    uint64_t woken; /* models whose access a read gave */
+    const memory *memory;
+    int kind; /* which entries a sight of numbers is about */
 } view;
 
 static int done(const view *v, uint32_t op)
@@ -20,6 +33,17 @@ static int done(const view *v, uint32_t op)
 static int done_under(const view *v, uint32_t op, uint32_t transaction)
 {
     return done(v, op) && v->before->transaction == transaction;
+}
+
+static int commits(const view *v)
+{
+    return done_under(v, CHIP_COMMIT, CHIP_RW) || done_under(v, CHIP_END_COMMIT, CHIP_RW);
+}
+
+static int drops(const view *v)
+{
+    return done_under(v, CHIP_CLOSE_SESSION, CHIP_RW) || done_under(v, CHIP_ABORT, CHIP_RW) ||
+           done_under(v, CHIP_END_ABORT, CHIP_RW) || done_under(v, CHIP_STORAGE_FAULT, CHIP_RW);
 }
 
 static int refused(const view *v, uint32_t op, uint32_t refusal)
@@ -61,23 +85,92 @@ static uint64_t newly_woken(const view *v)
 
 static int was_woken(const view *v, uint32_t model)
 {
-    return (int)(v->woken >> model & 1);
+    return (int)(v->memory->woken >> model & 1);
 }
 
-static int last_model(const view *v)
+/* ---- numbers and cursors ---- */
+
+static const uint32_t creations[ENTRY_KINDS] = {CHIP_CREATE_MODEL, CHIP_CREATE_SCHEMA_INSTANCE, CHIP_CREATE_INSTANCE};
+
+static int made(const view *v)
 {
-    return done(v, CHIP_CREATE_MODEL) && v->answer->value == CHIP_MODELS - 1;
+    return done(v, creations[v->kind]);
 }
 
-static int last_schema_instance(const view *v)
+/* The number that was tried first. */
+static uint64_t tried(const view *v)
 {
-    return done(v, CHIP_CREATE_SCHEMA_INSTANCE) && v->answer->value == CHIP_SCHEMA_INSTANCES - 1;
+    return v->cursors[v->kind];
 }
 
-static int last_instance(const view *v)
+static int is_free(const view *v, uint64_t number)
 {
-    return done(v, CHIP_CREATE_INSTANCE) && v->answer->value == CHIP_INSTANCES - 1;
+    const entry_kind *of = &entry_kinds[v->kind];
+    return v->working[of->at + number * of->stride] == 0;
 }
+
+static int last_made(const view *v)
+{
+    const entry_kind *of = &entry_kinds[v->kind];
+    return made(v) && v->answer->value == of->count - 1 && v->working[of->cursor] == 0;
+}
+
+static int live_passed(const view *v)
+{
+    return made(v) && v->answer->value > tried(v);
+}
+
+static int gone_round(const view *v)
+{
+    return made(v) && v->answer->value < tried(v);
+}
+
+static int gone_all_round(const view *v)
+{
+    return made(v) && v->answer->value + 1 == tried(v);
+}
+
+static int lower_left_free(const view *v)
+{
+    if (!made(v) || v->answer->value != tried(v))
+        return 0;
+    for (uint64_t n = 0; n < tried(v); n++)
+        if (is_free(v, n))
+            return 1;
+    return 0;
+}
+
+static int full_with_cursor(const view *v)
+{
+    return refused(v, creations[v->kind], CHIP_NO_ROOM) && tried(v) != 0;
+}
+
+static int made_again_after(const view *v, uint32_t drop)
+{
+    return made(v) && v->answer->value == v->memory->dropped[v->kind] && v->memory->dropped_by[v->kind] == drop;
+}
+
+static int made_again_after_closing(const view *v)
+{
+    return made_again_after(v, CHIP_CLOSE_SESSION);
+}
+
+static int made_again_after_abort(const view *v)
+{
+    return made_again_after(v, CHIP_ABORT);
+}
+
+static int made_again_after_end_abort(const view *v)
+{
+    return made_again_after(v, CHIP_END_ABORT);
+}
+
+static int made_again_after_fault(const view *v)
+{
+    return made_again_after(v, CHIP_STORAGE_FAULT);
+}
+
+/* ---- sets, references, places and events ---- */
 
 static int full_set(const view *v)
 {
@@ -194,6 +287,8 @@ static int refused_unrecorded(const view *v)
     return v->answer->refusal > CHIP_SY_ERR && v->before->opened && !v->before->recording;
 }
 
+/* ---- transactions and access ---- */
+
 static int closed_in_rw(const view *v)
 {
     return done_under(v, CHIP_CLOSE_SESSION, CHIP_RW);
@@ -306,10 +401,21 @@ typedef struct sight {
     int (*is_seen)(const view *v);
 } sight;
 
+/* To be seen of models, of schema instances and of instances. */
+static const sight sights_of_numbers[] = {
+    {"the last number is given, and the cursor is 0", last_made},
+    {"the cursor's number is live, and a higher one is given", live_passed},
+    {"none is free from the cursor on, and a lower number is given", gone_round},
+    {"none is free but the number before the cursor", gone_all_round},
+    {"the cursor's number is given, though a lower one is free", lower_left_free},
+    {"NO_ROOM, and the cursor is not 0", full_with_cursor},
+    {"a number is given again after the session was closed in RW", made_again_after_closing},
+    {"a number is given again after an abort", made_again_after_abort},
+    {"a number is given again after end, abort", made_again_after_end_abort},
+    {"a number is given again after a fault", made_again_after_fault},
+};
+
 static const sight sights[] = {
-    {"model 63 is made", last_model},
-    {"schema instance 15 is made", last_schema_instance},
-    {"instance 127 is made", last_instance},
     {"a set of 64 models", full_set},
     {"a set loses its last model", emptied_set},
     {"add model: its repository is closed, the schema instance's is open; place 2", added_model_closed},
@@ -345,27 +451,68 @@ static const sight sights[] = {
     {"access of a woken model ends", woken_ended},
 };
 
-#define SIGHTS ((int)(sizeof sights / sizeof *sights))
+#define COUNT(list) ((int)(sizeof list / sizeof *list))
+#define SIGHTS COUNT(sights)
+#define SIGHTS_OF_NUMBERS COUNT(sights_of_numbers)
 
 static int seen[SIGHTS];
-static uint64_t woken;
+static int seen_of[ENTRY_KINDS][SIGHTS_OF_NUMBERS];
+static memory remembered;
 
-void see(const call *asked, const chip_session *before, const chip_answer *answer, const uint64_t *working)
+void begin_walk(void)
 {
-    view v = {asked, before, answer, working, woken};
+    remembered.woken = 0;
+    for (int k = 0; k < ENTRY_KINDS; k++)
+        remembered.pending[k] = remembered.dropped[k] = NO_NUMBER;
+}
+
+static void remember_numbers(const view *v)
+{
+    uint32_t *pending = &remembered.pending[v->kind], *dropped = &remembered.dropped[v->kind];
+    if (made(v)) {
+        *dropped = NO_NUMBER;
+        if (*pending == NO_NUMBER)
+            *pending = v->answer->value;
+    }
+    if (drops(v) && *pending != NO_NUMBER) {
+        *dropped = *pending;
+        remembered.dropped_by[v->kind] = v->asked->op;
+    }
+    if (drops(v) || commits(v))
+        *pending = NO_NUMBER;
+}
+
+void see(const call *asked, const chip_session *before, const uint64_t *cursors, const chip_answer *answer,
+         const uint64_t *working)
+{
+    view v = {asked, before, cursors, answer, working, &remembered, 0};
     for (int n = 0; n < SIGHTS; n++)
         seen[n] = seen[n] || sights[n].is_seen(&v);
-    woken = (woken | newly_woken(&v)) & answer->session.ro;
+    remembered.woken = (remembered.woken | newly_woken(&v)) & answer->session.ro;
+    for (v.kind = 0; v.kind < ENTRY_KINDS; v.kind++) {
+        int *of_kind = seen_of[v.kind];
+        for (int n = 0; n < SIGHTS_OF_NUMBERS; n++)
+            of_kind[n] = of_kind[n] || sights_of_numbers[n].is_seen(&v);
+        remember_numbers(&v);
+    }
 }
 
 int print_sights(int names)
 {
-    int missing = 0;
+    static const char *const kind_names[ENTRY_KINDS] = {"models", "schema instances", "instances"};
+    int all = SIGHTS + ENTRY_KINDS * SIGHTS_OF_NUMBERS, missing = 0;
     for (int n = 0; n < SIGHTS; n++)
         missing += !seen[n];
-    printf("sights of the walks: %d of %d seen\n", SIGHTS - missing, SIGHTS);
+    for (int k = 0; k < ENTRY_KINDS; k++)
+        for (int n = 0; n < SIGHTS_OF_NUMBERS; n++)
+            missing += !seen_of[k][n];
+    printf("sights of the walks: %d of %d seen\n", all - missing, all);
     for (int n = 0; names && n < SIGHTS; n++)
         if (!seen[n])
             printf("  not seen: %s\n", sights[n].name);
+    for (int k = 0; names && k < ENTRY_KINDS; k++)
+        for (int n = 0; n < SIGHTS_OF_NUMBERS; n++)
+            if (!seen_of[k][n])
+                printf("  not seen: %s: %s\n", kind_names[k], sights_of_numbers[n].name);
     return missing;
 }

@@ -98,6 +98,12 @@ uint32_t any_schema(dice *d)
     return 1 + below(d, 2);
 }
 
+void any_cursors(dice *d, uint64_t *table)
+{
+    for (int k = 0; k < ENTRY_KINDS; k++)
+        table[entry_kinds[k].cursor] = any_entry(d, entry_kinds[k].count);
+}
+
 const entity_type *definition(const uint64_t *instance)
 {
     return &dictionary[(instance[0] & 0xff) - 1];

@@ -5,6 +5,7 @@
 #include "dice.h"
 
 #include "../model/dictionary.h"
+#include "../model/entry_kinds.h"
 
 #define NOWHERE UINT32_MAX
 
@@ -25,6 +26,9 @@ uint64_t new_entry(dice *d, uint32_t schema);
 uint64_t chained_names(dice *d, uint64_t *table, uint64_t access);
 
 uint32_t any_schema(dice *d);
+
+/* Each cursor at the first, the last or any number. */
+void any_cursors(dice *d, uint64_t *table);
 
 /* One that no other instance refers to, made free; never `except`. */
 uint64_t *vacate(dice *d, uint64_t *table, const uint64_t *except);

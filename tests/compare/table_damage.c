@@ -1,4 +1,4 @@
-/* Damage to the tables: their length, each kind of entry, and that they agree. */
+/* Damage to the tables: their length, each kind of entry, the cursors, and that they agree. */
 #include "damage.h"
 #include "spots.h"
 
@@ -26,6 +26,15 @@ static int kept_too_short(dice *d, state *s)
 static int both_too_short(dice *d, state *s)
 {
     s->working_words = s->kept_words = too_few(d);
+    return 1;
+}
+
+/* Some or all of the cursors lie behind the end. */
+static int too_short_for_cursors(dice *d, state *s)
+{
+    size_t words = CHIP_WORDS - 1 - below(d, ENTRY_KINDS);
+    s->working_words = one_in(d, 2) ? words : CHIP_WORDS;
+    s->kept_words = s->working_words == words && one_in(d, 2) ? CHIP_WORDS : words;
     return 1;
 }
 
@@ -404,6 +413,99 @@ static int reference_to_itself_of_wrong_type(dice *d, uint64_t *table, uint64_t 
     return 1;
 }
 
+/* ---- cursors ---- */
+
+static int one_past_the_last(dice *d, uint64_t *table, const entry_kind *of)
+{
+    (void)d;
+    table[of->cursor] = of->count;
+    return 1;
+}
+
+static int further_past_the_last(dice *d, uint64_t *table, const entry_kind *of)
+{
+    table[of->cursor] = of->count + 1 + (one_in(d, 2) ? below(d, 2 * CHIP_INSTANCES) : roll(d) >> 33);
+    return 1;
+}
+
+/* Only in its low half is the word sound. */
+static int far_past_the_last(dice *d, uint64_t *table, const entry_kind *of)
+{
+    table[of->cursor] = any_entry(d, of->count) | one_bit(d, 32, 63);
+    return 1;
+}
+
+static int model_cursor_of_64(dice *d, uint64_t *table, uint64_t access)
+{
+    (void)access;
+    return one_past_the_last(d, table, &entry_kinds[MODELS]);
+}
+
+static int model_cursor_above_64(dice *d, uint64_t *table, uint64_t access)
+{
+    (void)access;
+    return further_past_the_last(d, table, &entry_kinds[MODELS]);
+}
+
+static int model_cursor_of_2_to_32(dice *d, uint64_t *table, uint64_t access)
+{
+    (void)access;
+    return far_past_the_last(d, table, &entry_kinds[MODELS]);
+}
+
+static int schema_instance_cursor_of_16(dice *d, uint64_t *table, uint64_t access)
+{
+    (void)access;
+    return one_past_the_last(d, table, &entry_kinds[SCHEMA_INSTANCES]);
+}
+
+static int schema_instance_cursor_above_16(dice *d, uint64_t *table, uint64_t access)
+{
+    (void)access;
+    return further_past_the_last(d, table, &entry_kinds[SCHEMA_INSTANCES]);
+}
+
+static int schema_instance_cursor_of_2_to_32(dice *d, uint64_t *table, uint64_t access)
+{
+    (void)access;
+    return far_past_the_last(d, table, &entry_kinds[SCHEMA_INSTANCES]);
+}
+
+static int instance_cursor_of_128(dice *d, uint64_t *table, uint64_t access)
+{
+    (void)access;
+    return one_past_the_last(d, table, &entry_kinds[INSTANCES]);
+}
+
+static int instance_cursor_above_128(dice *d, uint64_t *table, uint64_t access)
+{
+    (void)access;
+    return further_past_the_last(d, table, &entry_kinds[INSTANCES]);
+}
+
+static int instance_cursor_of_2_to_32(dice *d, uint64_t *table, uint64_t access)
+{
+    (void)access;
+    return far_past_the_last(d, table, &entry_kinds[INSTANCES]);
+}
+
+/* Under RW, where the tables may differ. */
+static int any_cursor_past_the_last(dice *d, state *s, uint64_t *table)
+{
+    settle(s, CHIP_RW);
+    return one_past_the_last(d, table, &entry_kinds[below(d, ENTRY_KINDS)]);
+}
+
+static int working_cursor_alone(dice *d, state *s)
+{
+    return any_cursor_past_the_last(d, s, s->working);
+}
+
+static int kept_cursor_alone(dice *d, state *s)
+{
+    return any_cursor_past_the_last(d, s, s->kept);
+}
+
 /* ---- that the tables agree ---- */
 
 /* Each table stays sound by itself. */
@@ -452,7 +554,7 @@ static int tables_differ_in_instance(dice *d, state *s)
     return 1;
 }
 
-/* In a plate's last value, so that of instance 127 in the last word that can differ. */
+/* In a plate's last value, so that of instance 127 in the last word of an entry that can differ. */
 static int tables_differ_in_value(dice *d, state *s)
 {
     uint64_t *table = one_of_two(d, s);
@@ -466,17 +568,40 @@ static int tables_differ_in_value(dice *d, state *s)
 }
 
 /* No sound table has anything there, so this breaks two sentences. */
-static int tables_differ_in_last_word(dice *d, state *s)
+static int tables_differ_in_last_word_of_entries(dice *d, state *s)
 {
     uint64_t *table = one_of_two(d, s);
-    table[CHIP_WORDS - 1] = one_bit(d, 0, 63);
+    table[CHIP_INSTANCE_AT(CHIP_INSTANCES) - 1] = one_bit(d, 0, 63);
     return 1;
+}
+
+static int differ_in_cursor(dice *d, state *s, const entry_kind *of)
+{
+    uint64_t *cursor = one_of_two(d, s) + of->cursor;
+    *cursor = (*cursor + 1 + below(d, of->count - 1)) % of->count;
+    return 1;
+}
+
+static int tables_differ_in_model_cursor(dice *d, state *s)
+{
+    return differ_in_cursor(d, s, &entry_kinds[MODELS]);
+}
+
+static int tables_differ_in_schema_instance_cursor(dice *d, state *s)
+{
+    return differ_in_cursor(d, s, &entry_kinds[SCHEMA_INSTANCES]);
+}
+
+static int tables_differ_in_instance_cursor(dice *d, state *s)
+{
+    return differ_in_cursor(d, s, &entry_kinds[INSTANCES]);
 }
 
 const damage table_damages[] = {
     {"working table too short", NULL, working_too_short},
     {"kept table too short", NULL, kept_too_short},
     {"both tables too short", NULL, both_too_short},
+    {"a table that ends before a cursor", NULL, too_short_for_cursors},
     {"model of schema 0", model_of_schema_0, NULL},
     {"model of schema 3", model_of_schema_3, NULL},
     {"model word with a bit above the schema", model_with_bit_above, NULL},
@@ -510,11 +635,25 @@ const damage table_damages[] = {
     {"reference to a wrong type", reference_to_wrong_type, NULL},
     {"reference to a supertype", reference_to_supertype, NULL},
     {"reference to itself, of a wrong type", reference_to_itself_of_wrong_type, NULL},
+    {"model cursor of 64", model_cursor_of_64, NULL},
+    {"model cursor above 64", model_cursor_above_64, NULL},
+    {"model cursor of 2^32 or more", model_cursor_of_2_to_32, NULL},
+    {"schema instance cursor of 16", schema_instance_cursor_of_16, NULL},
+    {"schema instance cursor above 16", schema_instance_cursor_above_16, NULL},
+    {"schema instance cursor of 2^32 or more", schema_instance_cursor_of_2_to_32, NULL},
+    {"instance cursor of 128", instance_cursor_of_128, NULL},
+    {"instance cursor above 128", instance_cursor_above_128, NULL},
+    {"instance cursor of 2^32 or more", instance_cursor_of_2_to_32, NULL},
+    {"cursor past the last in the working table alone", NULL, working_cursor_alone},
+    {"cursor past the last in the kept table alone", NULL, kept_cursor_alone},
     {"tables differ in a model", NULL, tables_differ_in_model},
     {"tables differ in a schema instance", NULL, tables_differ_in_schema_instance},
     {"tables differ in a set", NULL, tables_differ_in_set},
     {"tables differ in an instance", NULL, tables_differ_in_instance},
     {"tables differ in a value", NULL, tables_differ_in_value},
-    {"tables differ in the last word", NULL, tables_differ_in_last_word},
+    {"tables differ in the last word of the entries", NULL, tables_differ_in_last_word_of_entries},
+    {"tables differ in the model cursor", NULL, tables_differ_in_model_cursor},
+    {"tables differ in the schema instance cursor", NULL, tables_differ_in_schema_instance_cursor},
+    {"tables differ in the instance cursor", NULL, tables_differ_in_instance_cursor},
     {NULL, NULL, NULL},
 };

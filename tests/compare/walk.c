@@ -1,6 +1,7 @@
 #include "walk.h"
 
 #include "../model/dictionary.h"
+#include "../model/entry_kinds.h"
 
 #define LAST_OP CHIP_SUBTYPE_TEST
 #define ALL UINT64_MAX
@@ -127,21 +128,31 @@ static uint32_t some_that_holds_back(const position *at)
     return going_round(at, CHIP_INSTANCES, holds_back, at->session->rw);
 }
 
-/* At times one that is held back. */
+/* The last that was made, if its creation was not dropped. */
+static uint32_t before_cursor(const position *at, const entry_kind *of)
+{
+    return ((uint32_t)at->working[of->cursor] + of->count - 1) % of->count;
+}
+
+/* At times the last that was made, at times one that is held back. */
 static uint32_t instance_to_delete(const position *at)
 {
     uint64_t rw = at->session->rw;
     uint32_t referrer = some_that_holds_back(at);
+    if (one_in(at->dice, 8))
+        return before_cursor(at, &entry_kinds[INSTANCES]);
     if (one_in(at->dice, 2) || !holds_back(at, referrer, rw))
         return some_instance(at, rw);
     return target_of(at, referrer);
 }
 
-/* At times one with an instance that is held back. */
+/* At times the last that was made, at times one with an instance that is held back. */
 static uint32_t model_to_delete(const position *at)
 {
     uint64_t rw = at->session->rw;
     uint32_t referrer = some_that_holds_back(at);
+    if (one_in(at->dice, 8))
+        return before_cursor(at, &entry_kinds[MODELS]);
     if (one_in(at->dice, 2) || !holds_back(at, referrer, rw))
         return some_model(at, rw);
     return (uint32_t)(instance_header(at, target_of(at, referrer)) >> 8 & 0xff);
@@ -311,7 +322,7 @@ static call with_arguments(const position *at, uint32_t op)
         next.a = some_model(at, session->ro);
         break;
     case CHIP_DELETE_SCHEMA_INSTANCE:
-        next.a = some_schema_instance(at);
+        next.a = one_in(at->dice, 8) ? before_cursor(at, &entry_kinds[SCHEMA_INSTANCES]) : some_schema_instance(at);
         break;
     case CHIP_ADD_MODEL:
         next.a = some_schema_instance(at);

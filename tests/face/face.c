@@ -1,4 +1,5 @@
-/* What include/chip.h adds to the call: names for numbers, a chip in one struct; and tables that are too short or not there. */
+/* What include/chip.h adds to the call: names for numbers and cursors, a chip in one struct; and tables that are too short or
+ * not there. */
 #include "chip.h"
 
 #include <stdio.h>
@@ -114,9 +115,61 @@ static void short_tables_are_refused(void)
     expect(opened_with(NULL, 0, NULL, 0) == CHIP_SY_ERR, "no tables");
     expect(opened_with(working, CHIP_WORDS, NULL, 0) == CHIP_SY_ERR, "no kept table");
     expect(opened_with(NULL, 0, kept, CHIP_WORDS) == CHIP_SY_ERR, "no working table");
-    expect(opened_with(working, CHIP_WORDS - 1, kept, CHIP_WORDS) == CHIP_SY_ERR, "a working table of 735 words");
-    expect(opened_with(working, CHIP_WORDS, kept, CHIP_WORDS - 1) == CHIP_SY_ERR, "a kept table of 735 words");
-    expect(opened_with(working, CHIP_WORDS, kept, CHIP_WORDS) == CHIP_DONE, "tables of 736 words");
+    expect(opened_with(working, CHIP_WORDS - 1, kept, CHIP_WORDS) == CHIP_SY_ERR, "a working table of 738 words");
+    expect(opened_with(working, CHIP_WORDS, kept, CHIP_WORDS - 1) == CHIP_SY_ERR, "a kept table of 738 words");
+    expect(opened_with(working, CHIP_WORDS, kept, CHIP_WORDS) == CHIP_DONE, "tables of 739 words");
+}
+
+/* ---- cursors ---- */
+
+/* Whether they are so in the working table. */
+static int cursors_are(const chip *on, uint64_t model, uint64_t schema_instance, uint64_t instance)
+{
+    return on->working[CHIP_MODEL_CURSOR] == model && on->working[CHIP_SCHEMA_INSTANCE_CURSOR] == schema_instance &&
+           on->working[CHIP_INSTANCE_CURSOR] == instance;
+}
+
+static void cursors_have_names(void)
+{
+    static chip on;
+    chip_fresh(&on);
+    chip_do(&on, CHIP_OPEN_SESSION, 0, 0, 0);
+    chip_do(&on, CHIP_OPEN_REPOSITORY, 0, 0, 0);
+    chip_do(&on, CHIP_START_RW, 0, 0, 0);
+    chip_do(&on, CHIP_CREATE_MODEL, 0, 1, 7);
+    expect(cursors_are(&on, 1, 0, 0), "a model moves the first cursor");
+    chip_do(&on, CHIP_CREATE_SCHEMA_INSTANCE, 0, 1, 7);
+    expect(cursors_are(&on, 1, 1, 0), "a schema instance moves the second cursor");
+    chip_do(&on, CHIP_RW_ACCESS, 0, 0, 0);
+    chip_do(&on, CHIP_CREATE_INSTANCE, 0, CHIP_PLATE, 0);
+    expect(cursors_are(&on, 1, 1, 1), "an instance moves the third cursor");
+    chip_do(&on, CHIP_COMMIT, 0, 0, 0);
+    chip_do(&on, CHIP_CREATE_INSTANCE, 0, CHIP_PLATE, 0);
+    chip_restart(&on);
+    expect(cursors_are(&on, 1, 1, 1), "after a restart the cursors are those that were committed");
+}
+
+/* In both tables; else they would be refused since they differ. */
+static uint32_t opened_with_cursor(uint32_t cursor, uint64_t number)
+{
+    static uint64_t working[CHIP_WORDS], kept[CHIP_WORDS];
+    uint32_t refusal;
+    working[cursor] = kept[cursor] = number;
+    refusal = opened_with(working, CHIP_WORDS, kept, CHIP_WORDS);
+    working[cursor] = kept[cursor] = 0;
+    return refusal;
+}
+
+static void cursors_have_bounds(void)
+{
+    expect(opened_with_cursor(CHIP_MODEL_CURSOR, CHIP_MODELS - 1) == CHIP_DONE, "a model cursor of 63");
+    expect(opened_with_cursor(CHIP_MODEL_CURSOR, CHIP_MODELS) == CHIP_SY_ERR, "a model cursor of 64");
+    expect(opened_with_cursor(CHIP_SCHEMA_INSTANCE_CURSOR, CHIP_SCHEMA_INSTANCES - 1) == CHIP_DONE,
+           "a schema instance cursor of 15");
+    expect(opened_with_cursor(CHIP_SCHEMA_INSTANCE_CURSOR, CHIP_SCHEMA_INSTANCES) == CHIP_SY_ERR,
+           "a schema instance cursor of 16");
+    expect(opened_with_cursor(CHIP_INSTANCE_CURSOR, CHIP_INSTANCES - 1) == CHIP_DONE, "an instance cursor of 127");
+    expect(opened_with_cursor(CHIP_INSTANCE_CURSOR, CHIP_INSTANCES) == CHIP_SY_ERR, "an instance cursor of 128");
 }
 
 int main(void)
@@ -127,6 +180,8 @@ int main(void)
     chips_begin_and_begin_again();
     places_are_told();
     short_tables_are_refused();
+    cursors_have_names();
+    cursors_have_bounds();
     printf("face: %d failures\n", failures);
     return failures != 0;
 }

@@ -99,7 +99,7 @@ fn short_tables_are_refused() {
             0,
             0,
             &mut session,
-            &mut working[..735],
+            &mut working[..chip::WORDS - 1],
             &mut kept
         ),
         by_itself(Refusal::SY_ERR)
@@ -120,11 +120,40 @@ fn short_tables_are_refused() {
     assert_eq!((session.opened, session.recording), (1, 1));
 }
 
+/// A model moves the first cursor, a schema instance the second, an instance the third.
+fn cursors_have_names() {
+    let mut on = Chip::fresh();
+    let made = [
+        (Operation::CreateModel, chip::MODEL_CURSOR),
+        (
+            Operation::CreateSchemaInstance,
+            chip::SCHEMA_INSTANCE_CURSOR,
+        ),
+        (Operation::CreateInstance, chip::INSTANCE_CURSOR),
+    ];
+    for op in [
+        Operation::OpenSession,
+        Operation::OpenRepository,
+        Operation::StartRw,
+    ] {
+        assert_eq!(on.ask(op, 0, 0, 0), Ok(0));
+    }
+    for (op, cursor) in made {
+        assert_eq!(on.working[cursor], 0);
+        assert_eq!(on.ask(op, 0, 1, 7), Ok(0));
+        assert_eq!(on.working[cursor], 1);
+        if op == Operation::CreateModel {
+            assert_eq!(on.ask(Operation::RwAccess, 0, 0, 0), Ok(0));
+        }
+    }
+}
+
 fn main() {
     refusals_have_names();
     places_have_names();
     places_are_told();
     listed_operations_have_names();
     short_tables_are_refused();
+    cursors_have_names();
     println!("face in Rust: as in C");
 }

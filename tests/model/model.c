@@ -2,6 +2,7 @@
 #include "model.h"
 
 #include "dictionary.h"
+#include "entry_kinds.h"
 
 #include <string.h>
 
@@ -85,21 +86,22 @@ static const entity_type *definition_of(uint64_t header)
 
 #define BUCKETS 128
 
-/* Labels by themselves, and no name twice in a repository. Entries are `stride` words apart; the live ones of each schema
- * go into `live`. Each is compared with those of its bucket alone, which are chained by their numbers from 1. */
-static int entries_sound(const uint64_t *entries, size_t stride, uint32_t count, uint64_t live[3])
+/* Labels by themselves, and no name twice in a repository. The live ones of each schema go into `live`. Each is compared
+ * with those of its bucket alone, which are chained by their numbers from 1. */
+static int entries_sound(const uint64_t *table, const entry_kind *of, uint64_t live[3])
 {
+    const uint64_t *entries = table + of->at;
     uint8_t last[BUCKETS] = {0};
     uint8_t before[CHIP_MODELS + 1];
-    for (uint32_t n = 0; n < count; n++) {
-        uint64_t entry = entries[n * stride];
+    for (uint32_t n = 0; n < of->count; n++) {
+        uint64_t entry = entries[n * of->stride];
         if (entry == 0)
             continue;
         if (schema_of(entry) - 1 > 1 || repository_of(entry) >= CHIP_REPOSITORIES)
             return 0;
         uint8_t *bucket = &last[full_name_of(entry) * 0x9e3779b97f4a7c15 >> 57];
         for (uint32_t other = *bucket; other != 0; other = before[other])
-            if (full_name_of(entries[(other - 1) * stride]) == full_name_of(entry))
+            if (full_name_of(entries[(other - 1) * of->stride]) == full_name_of(entry))
                 return 0;
         before[n + 1] = *bucket;
         *bucket = (uint8_t)(n + 1);
@@ -145,14 +147,21 @@ static int instance_sound(const uint64_t *table, const uint64_t *instance, const
     return !has(flags, type->reference) || reference_sound(table, instance[1 + type->reference], type->target);
 }
 
+static int cursors_sound(const uint64_t *table)
+{
+    for (int k = 0; k < ENTRY_KINDS; k++)
+        if (table[entry_kinds[k].cursor] >= entry_kinds[k].count)
+            return 0;
+    return 1;
+}
+
 static int table_sound(const uint64_t *table)
 {
     uint64_t live[3] = {0};
     uint64_t unused[3] = {0};
-    const uint64_t *schema_instances = table + CHIP_SCHEMA_INSTANCE_AT(0);
-    if (!entries_sound(table, 1, CHIP_MODELS, live) ||
-        !entries_sound(schema_instances, 2, CHIP_SCHEMA_INSTANCES, unused) ||
-        !sets_sound(schema_instances, live))
+    if (!cursors_sound(table) || !entries_sound(table, &entry_kinds[MODELS], live) ||
+        !entries_sound(table, &entry_kinds[SCHEMA_INSTANCES], unused) ||
+        !sets_sound(table + CHIP_SCHEMA_INSTANCE_AT(0), live))
         return 0;
     for (uint32_t i = 0; i < CHIP_INSTANCES; i++)
         if (!instance_sound(table, table + CHIP_INSTANCE_AT(i), live))
@@ -412,9 +421,47 @@ static outcome storage_fault(machine *on)
     return CHIP_DONE;
 }
 
-/* A new model or schema instance. The lowest free number is taken; a taken name comes before `full`. */
-static outcome create_entry(machine *on, uint64_t *entries, size_t stride, uint32_t count, outcome duplicate,
-                            outcome full, uint32_t repository, uint32_t schema, uint32_t name)
+/* From the cursor on, going round once; the count if every entry is live. This and what follows is inline so that each
+ * kind has loops of its own. */
+static inline uint32_t first_free(const uint64_t *table, const entry_kind *of)
+{
+    uint32_t cursor = (uint32_t)table[of->cursor];
+    const uint64_t *entry = table + of->at + cursor * of->stride;
+    for (uint32_t n = cursor; n < of->count; n++, entry += of->stride)
+        if (*entry == 0)
+            return n;
+    entry = table + of->at;
+    for (uint32_t n = 0; n < cursor; n++, entry += of->stride)
+        if (*entry == 0)
+            return n;
+    return of->count;
+}
+
+/* NO_ROOM of 20, 30 and 40, or what they do; `first` is the first word of the new entry. */
+static inline outcome create(machine *on, const entry_kind *of, uint64_t first, uint32_t full)
+{
+    uint32_t number = first_free(on->working, of);
+    if (number == of->count)
+        return refuse(CHIP_NO_ROOM, full);
+    on->working[of->at + number * of->stride] = first;
+    on->working[of->cursor] = (number + 1) % of->count;
+    on->value = number;
+    return CHIP_DONE;
+}
+
+/* A free entry has the name 0 of repository 0. */
+static inline int has_name_of(const uint64_t *table, const entry_kind *of, uint64_t label)
+{
+    const uint64_t *entry = table + of->at;
+    for (uint32_t n = 0; n < of->count; n++, entry += of->stride)
+        if (full_name_of(*entry) == full_name_of(label) && *entry != 0)
+            return 1;
+    return 0;
+}
+
+/* A new model or schema instance; a taken name comes before NO_ROOM. */
+static inline outcome create_entry(machine *on, const entry_kind *of, uint32_t taken, uint32_t full, uint32_t repository,
+                                   uint32_t schema, uint32_t name)
 {
     if (repository >= CHIP_REPOSITORIES)
         return refuse(CHIP_RP_NEXS, CHIP_PLACE_A);
@@ -423,32 +470,20 @@ static outcome create_entry(machine *on, uint64_t *entries, size_t stride, uint3
     if (schema != 1 && schema != 2)
         return refuse(CHIP_SD_NDEF, CHIP_PLACE_B);
     uint64_t created = entry_word(repository, schema, name);
-    uint32_t lowest = count;
-    for (uint32_t n = count; n-- > 0;) {
-        uint64_t entry = entries[n * stride];
-        if (entry == 0)
-            lowest = n;
-        else if (full_name_of(entry) == full_name_of(created))
-            return duplicate;
-    }
-    if (lowest == count)
-        return full;
-    entries[lowest * stride] = created;
-    on->value = lowest;
-    return CHIP_DONE;
+    if (has_name_of(on->working, of, created))
+        return refuse(taken, CHIP_PLACE_C);
+    return create(on, of, created, full);
 }
 
 static outcome create_model(machine *on, uint32_t repository, uint32_t schema, uint32_t name)
 {
-    return create_entry(on, on->working, 1, CHIP_MODELS, refuse(CHIP_MO_DUP, CHIP_PLACE_C),
-                        refuse(CHIP_NO_ROOM, CHIP_PLACE_MODELS), repository, schema, name);
+    return create_entry(on, &entry_kinds[MODELS], CHIP_MO_DUP, CHIP_PLACE_MODELS, repository, schema, name);
 }
 
 static outcome create_schema_instance(machine *on, uint32_t repository, uint32_t schema, uint32_t name)
 {
-    return create_entry(on, on->working + CHIP_SCHEMA_INSTANCE_AT(0), 2, CHIP_SCHEMA_INSTANCES,
-                        refuse(CHIP_SI_DUP, CHIP_PLACE_C), refuse(CHIP_NO_ROOM, CHIP_PLACE_SCHEMA_INSTANCES),
-                        repository, schema, name);
+    return create_entry(on, &entry_kinds[SCHEMA_INSTANCES], CHIP_SI_DUP, CHIP_PLACE_SCHEMA_INSTANCES, repository, schema,
+                        name);
 }
 
 /* A set of instance numbers. */
@@ -638,14 +673,7 @@ static outcome create_instance(machine *on, uint32_t model, uint32_t type)
         return refuse(CHIP_ED_NDEF, CHIP_PLACE_B);
     if (dictionary[type].schema != schema_of(on->working[model]))
         return refuse(CHIP_ED_NVLD, CHIP_PLACE_B);
-    uint32_t lowest = 0;
-    while (is_live_instance(on, lowest))
-        lowest++;
-    if (lowest == CHIP_INSTANCES)
-        return refuse(CHIP_NO_ROOM, CHIP_PLACE_INSTANCES);
-    *instance_at(on, lowest) = 1 + type + (model << 8);
-    on->value = lowest;
-    return CHIP_DONE;
+    return create(on, &entry_kinds[INSTANCES], 1 + type + (model << 8), CHIP_PLACE_INSTANCES);
 }
 
 /* EI_NEXS MX_NRW, of 41, 44 and 45. */

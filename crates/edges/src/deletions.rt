@@ -49,11 +49,12 @@ fn referring() -> Chip {
     lead(c, 5, 0, 0, 0)
 }
 
-// A reference to a deleted instance is unset: its number may be another's soon.
+// A reference to a deleted instance is unset: its number may be another's soon, at once in a table that was full.
 fn reference_left() {
     title(b"A deletion unsets references, before the number is taken again.");
     let c = referring();
     let c = lead_all(c, 23, 0, 0, 0, Counting::A, 2);
+    let c = lead_all(c, 40, 0, 2, 0, Counting::None, 126);
     let c = show(c, 42, 1, 2, 0);
     let c = show(c, 41, 0, 0, 0);
     let c = show(c, 40, 0, 2, 0);

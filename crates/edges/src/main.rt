@@ -11,11 +11,13 @@ mod places;
 mod printing;
 mod references;
 mod schema_instances;
+mod spreading;
 
 fn main() {
     models::run();
     schema_instances::run();
     instances::run();
+    spreading::run();
     references::run();
     access::run();
     deletions::run();

@@ -13,6 +13,7 @@ use Rattle.session.specs.Runs.{Call, call, Answered}
 use Rattle.promises.specs.Records.{_gives_, tenRecords}
 use Rattle.history.specs.Remains.{remainingIf, remaining}
 use Rattle.history.specs.Live.{now, still, LiveModel, LiveInstance, Live, SetTo}
+use Rattle.history.specs.Demand3.{triedFirst}
 use Rattle.history.specs.Proofs.Since.{since-cases, since-nothing}
 
 -- the history of the ten, and that of the first eight
@@ -37,10 +38,20 @@ pub holds-five : SetTo 0 0 5 eight
 unfolding SetTo the-table
 holds-five = (call 40 0 2 0, call 40 0 2 0, still (now (record { put = refl; value = refl; instance = now (refl, refl); named = λ q. clash false q refl })) refl)
 
+-- one past the last number given: instance 1 is tried first
+pub one-tried : triedFirst Instance eight ≡ 1
+unfolding triedFirst
+one-tried = refl
+
 -- after it the abort alone remains: the refused 42 is struck out, and what came before is dropped; nothing is live
 pub abort-remains : remaining ten ≡ call 8 0 0 0 gives (0, 0, 0) ∷ []
 unfolding remaining remainingIf
 abort-remains = refl
+
+-- .. and instance 0 again
+pub none-tried : triedFirst Instance (remaining ten) ≡ 0
+unfolding triedFirst remaining remainingIf
+none-tried = refl
 
 pub nothing-live : (kind : Kind) (n : ℕ) (q : Call) → Live kind n q (remaining ten) → ⊥
 unfolding remaining remainingIf

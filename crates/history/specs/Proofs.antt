@@ -3,6 +3,7 @@ pub mod Saying
 pub mod Reading
 pub mod Since
 pub mod Told
+pub mod Cursors
 pub mod Made
 pub mod Groups
 pub mod Attributes
@@ -12,5 +13,6 @@ pub mod Removing
 pub mod Speaking
 pub mod Kept
 pub mod Room
+pub mod Next
 pub mod Places
 pub mod Whole

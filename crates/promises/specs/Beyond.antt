@@ -1,4 +1,4 @@
--- Words from 736 on (CHIP, words of a table): over a whole call they are neither written nor read.
+-- Words from 739 on (CHIP, words of a table): over a whole call they are neither written nor read.
 use mathlib.Core.Path.{_≡_, refl, sym, ap, _∙_}
 use mathlib.Core.Bool.{Bool, true, false, cond}
 use mathlib.Core.Logic.{_⊎_, inl, inr}
@@ -10,7 +10,7 @@ use Rattle.logic.specs.Laws.Bools.{decided, fails, clash}
 use Rattle.logic.specs.Laws.Decides.{same-test, restated, at-most}
 use Rattle.words.specs.Layout.{words}
 use Rattle.words.specs.Copies.{isLong, agree, copied}
-use Rattle.words.specs.Laws.Copies.{Agreeing, agree-test, agree-entries, length-copied, copied-alike, copied-beyond}
+use Rattle.words.specs.Laws.Copies.{Agreeing, agree-test, agree-entries, agree-cursors, length-copied, copied-alike, copied-beyond}
 use Rattle.tables.specs.Sound.{soundTables}
 use Rattle.tables.specs.Laws.Sound.{sound-alike}
 use Rattle.tables.specs.Laws.Changes.{Kept, change-keeps}
@@ -32,7 +32,7 @@ use Rattle.promises.specs.Keeps.Alike.{row-alike, access-alike, apply-al
 
 -- ---- never written
 
--- both tables have their lengths after a call, and their words from 736 on
+-- both tables have their lengths after a call, and their words from 739 on
 pub record BeyondKept (w k : List ℕ) (o : Outcome) : Type 0 where
   pub working : Kept w (o .working)
   pub kept : Kept k (o .kept)
@@ -67,7 +67,7 @@ by-way op a b c x w k o (doing h p e) =
       kept = kept-keeps w k (both .working .long) (both .kept .long) tables;
     }
 
--- **No call writes a word from 736 on or changes a table's length**, whatever the tables.
+-- **No call writes a word from 739 on or changes a table's length**, whatever the tables.
 pub never-written : (op a b c : ℕ) (x : Session) (w k : List ℕ) → BeyondKept w k (step op a b c x w k)
 never-written op a b c x w k = by-way op a b c x w k (step op a b c x w k) (way op a b c x w k)
 
@@ -129,7 +129,7 @@ module _ (w k w′ k′ : List ℕ) (hw : Agreeing w w′) (hk : Agreeing k k′
   performed-alike op a b c x =
       ap
       (λ (row : Row). unlessRefused (firstOf (gate (operationOf op) (x .state) ++ row .checks)) (x .state) (row .effect))
-      (row-alike w w′ (agree-entries w w′ hw) (operationOf op) a b c (x .state))
+      (row-alike w w′ (agree-entries w w′ hw) (agree-cursors w w′ hw) (operationOf op) a b c (x .state))
 
   agreeing-step : (op a b c : ℕ) (x : Session) → AlikeLeft (step op a b c x w k) (step op a b c x w′ k′)
   unfolding step core
@@ -154,7 +154,7 @@ unsound-short x w k h = fails (sound x w k) (λ s. by-cases (sound-test x w k .h
     by-cases s (inl e) = clash _ (at-most words (length w) .passes (s .tables .working .long)) e
     by-cases s (inr e) = clash _ (at-most words (length k) .passes (s .tables .kept .long)) e
 
--- **No call reads a word from 736 on**: tables that are alike below give one answer and are left alike below.
+-- **No call reads a word from 739 on**: tables that are alike below give one answer and are left alike below.
 pub never-read : (op a b c : ℕ) (x : Session) (w k w′ k′ : List ℕ) → AlikeInUse w w′ → AlikeInUse k k′ → AlikeLeft (step op a b c x w k) (step op a b c x w′ k′)
 unfolding step
 never-read op a b c x w k w′ k′ hw hk = by-cases (decided (isLong w)) (decided (isLong k))

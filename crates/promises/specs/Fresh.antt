@@ -9,8 +9,9 @@ use lib.ListN.{getD, getD-replicate}
 use Rattle.logic.specs.Laws.Bools.{clash}
 use Rattle.words.specs.declared.layout.Kind.{Kind}
 use Rattle.words.specs.declared.layout.Kind.the-variants.{Model, SchemaInstance, Instance}
-use Rattle.words.specs.Layout.{words, placeOf}
-use Rattle.words.specs.Entries.{wordOf, inEntry, freeAt, formed}
+use Rattle.words.specs.Layout.{words, placeOf, cursorOf}
+use Rattle.words.specs.Entries.{wordOf, cursorIn, inEntry, freeAt, formed}
+use Rattle.words.specs.Laws.Layout.{count-positive, cursor-in-use}
 use Rattle.words.specs.Laws.Entries.{entry-in-use}
 use Rattle.session.specs.Sound.{sound}
 use Rattle.session.specs.Runs.{freshSession, Empty, Fresh, freshTable, freshChip}
@@ -26,6 +27,9 @@ module _ (t : List ℕ) (h : Empty t) where
       by-cases true e = h .zeros (placeOf kind i + k) (entry-in-use kind i k e)
       by-cases false e = refl
 
+  pub no-cursor : (kind : Kind) → cursorIn t kind ≡ 0
+  no-cursor kind = h .zeros (cursorOf kind) (cursor-in-use kind)
+
   all-free : (kind : Kind) (i : ℕ) → freeAt t kind i ≡ true
   all-free kind i = ap (λ (w : ℕ). eqb w 0) (no-word kind i 0)
 
@@ -35,6 +39,7 @@ module _ (t : List ℕ) (h : Empty t) where
   empty-sound : SoundTable t
   empty-sound = record {
     long = h .long;
+    cursors = λ kind. rw (no-cursor kind) (count-positive kind);
     models = λ m l. ap (formed Model) (no-word Model m 0);
     model-names = no-names Model;
     groups = λ s l. record { empty = λ e. no-word SchemaInstance s 1; label = λ e. clash _ (all-free SchemaInstance s) e; members = λ e. clash _ (all-free SchemaInstance s) e };

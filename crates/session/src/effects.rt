@@ -81,7 +81,7 @@ pub fn as_number(b: bool) -> u32
     if b { 1 } else { 0 }
 }
 
-// The lowest number that is free is taken; NO_ROOM if every entry is live.
+// The next free number is taken; NO_ROOM if every entry is live.
 pub fn created(kind: Kind, first: u64, s: State, w: &[u64]) -> Effect
     ensures { λ r. ⌜ r ≡ createdIn kind first s (now (w .entry)) ⌝ }
 {

@@ -9,7 +9,7 @@ use Rattle.words.specs.Layout.{countOf}
 use Rattle.logic.specs.Search.{allB}
 use Rattle.words.specs.Sets.{none, bits, has}
 use Rattle.words.specs.Fields.{nameIn, repositoryIn, schemaIn, typeIn, modelIn, values, isLabel, isHeader, isFree, isNamed}
-use Rattle.words.specs.Entries.{freeAt, allFormed}
+use Rattle.words.specs.Entries.{freeAt, cursorIn, allFormed}
 use Rattle.words.specs.Copies.{isLong, agree}
 use Rattle.dictionary.specs.declared.answers.Attribute.{Attribute}
 use Rattle.dictionary.specs.declared.answers.Attribute.the-variants.{Lacking, Whole, Reference}
@@ -61,9 +61,16 @@ soundEntries t = allFormed t Model && distinct t Model && allB (countOf SchemaIn
 abbrev pub soundInstances : List ℕ → Bool
 soundInstances t = allB (countOf Instance) (soundInstance t)
 
--- long enough, and every entry sound
+-- each cursor is the number of an entry
+abbrev pub soundCursor : List ℕ → Kind → Bool
+soundCursor t kind = ltb (cursorIn t kind) (countOf kind)
+
+abbrev pub soundCursors : List ℕ → Bool
+soundCursors t = soundCursor t Model && soundCursor t SchemaInstance && soundCursor t Instance
+
+-- long enough, and every cursor and every entry sound
 unfoldable pub soundTable : List ℕ → Bool
-soundTable t = isLong t && soundEntries t && soundInstances t
+soundTable t = isLong t && soundCursors t && soundEntries t && soundInstances t
 
 -- both tables, which agree in the words in use unless a transaction writes
 unfoldable pub soundTables : Bool → List ℕ → List ℕ → Bool

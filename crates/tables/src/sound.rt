@@ -9,7 +9,7 @@ ghost use Rattle.logic.specs.Search.{allB};
 ghost use Rattle.tables.specs.Quick.Live.{liveIn};
 ghost use Rattle.tables.specs.Quick.Values.{liveFits, instanceFits};
 ghost use Rattle.tables.specs.Quick.Labels.{labelled, soundLabels, testedEntries, sameEntries, isBlank};
-ghost use Rattle.tables.specs.Sound.{soundGroup, soundEntries, soundInstances, soundTable, soundTables};
+ghost use Rattle.tables.specs.Sound.{soundCursor, soundCursors, soundGroup, soundEntries, soundInstances, soundTable, soundTables};
 use super::labels::Tested;
 use super::labels::test_labels;
 use super::live::Live;
@@ -24,6 +24,7 @@ use super::view::set_at;
 use dictionary::is_type;
 use words::copies::agree;
 use words::copies::is_long;
+use words::entries::cursor_in;
 use words::fields::is_free;
 use words::fields::schema_in;
 use words::fields::type_in;
@@ -152,10 +153,28 @@ fn test_entries(t: &[u64]) -> Tested
     Tested::Sound(live)
 }
 
+fn sound_cursor(t: &[u64], kind: Kind) -> bool
+    ensures { λ r. ⌜ r ≡ soundCursor (now (t .entry)) kind ⌝ }
+{
+    cursor_in(t, kind) < (count(kind) as u64)
+}
+
+// Each is the number of an entry.
+fn sound_cursors(t: &[u64]) -> bool
+    ensures { λ r. ⌜ r ≡ soundCursors (now (t .entry)) ⌝ }
+{
+    sound_cursor(t, Kind::Model)
+        & sound_cursor(t, Kind::SchemaInstance)
+        & sound_cursor(t, Kind::Instance)
+}
+
 pub fn sound_table(t: &[u64]) -> bool
     ensures { λ r. ⌜ r ≡ soundTable (now (t .entry)) ⌝ }
 {
     if !is_long(t) {
+        return false;
+    }
+    if !sound_cursors(t) {
         return false;
     }
     let Tested::Sound(live) = test_entries(t) else {
@@ -179,15 +198,18 @@ fn same_entries(a: &[u64], b: &[u64]) -> bool
     differing == 0
 }
 
-// A table beside one whose entries are sound: entries that are the same need no second test.
-fn sound_beside(other: &[u64], live: Live, t: &[u64]) -> bool
-    requires { ⌜ (words ≤ length (now other)) × (words ≤ length (now t)) × (soundEntries (now other) ≡ true) × (live ≡ liveIn (now other) Model) ⌝ }
-    ensures { λ r. ⌜ r ≡ soundTable (now (t .entry)) ⌝ }
+// The kept table beside a working one whose entries are sound: entries that are the same need no second test.
+fn sound_beside(working: &[u64], live: Live, kept: &[u64]) -> bool
+    requires { ⌜ (words ≤ length (now working)) × (words ≤ length (now kept)) × (soundEntries (now working) ≡ true) × (live ≡ liveIn (now working) Model) ⌝ }
+    ensures { λ r. ⌜ r ≡ soundTable (now (kept .entry)) ⌝ }
 {
-    if same_entries(other, t) {
-        return sound_instances(t, live);
+    if !sound_cursors(kept) {
+        return false;
     }
-    sound_table(t)
+    if same_entries(working, kept) {
+        return sound_instances(kept, live);
+    }
+    sound_table(kept)
 }
 
 fn sound_pair(working: &[u64], kept: &[u64]) -> bool
@@ -197,6 +219,9 @@ fn sound_pair(working: &[u64], kept: &[u64]) -> bool
         return false;
     }
     if !is_long(kept) {
+        return false;
+    }
+    if !sound_cursors(working) {
         return false;
     }
     let Tested::Sound(live) = test_entries(working) else {

@@ -58,7 +58,7 @@ module _ (q : Call) (chip : Chip) (o : Outcome) (c : Called q chip o) where
   pub code-sound : SoundChip chip → SoundChip (left o)
   code-sound = rw (as-step q chip o c) (soundness-stays (q .op) (q .a) (q .b) (q .c) (chip .session) (chip .working) (chip .kept) (q .small))
 
-  -- **Words from 736 on are not written ..**
+  -- **Words from 739 on are not written ..**
   pub code-never-writes : BeyondKept (chip .working) (chip .kept) o
   code-never-writes = rw (as-step q chip o c) (never-written (q .op) (q .a) (q .b) (q .c) (chip .session) (chip .working) (chip .kept))
 

@@ -29,8 +29,8 @@ use Rattle.promises.specs.Wrong.{NoTable, OnlyAnswers}
 use Rattle.promises.specs.Keeps.Ways.{Way, unsound, refusing, doing, way}
 use Rattle.history.specs.Remains.{remainingIf, remaining}
 use Rattle.history.specs.Live.{LiveModel, now}
-use Rattle.history.specs.Demand3.{Tells, Full, creationOf, Creates}
-use Rattle.history.specs.Theorems.{tells, kept-tells, no-room, no-room-answered}
+use Rattle.history.specs.Demand3.{Tells, Full, creationOf, Creates, ComesNext}
+use Rattle.history.specs.Theorems.{tells, kept-tells, no-room, no-room-answered, next-number}
 use Rattle.tightness.specs.Code.{Called, as-step, Run, run-after, run-history}
 
 -- ---- demand 3, of the code
@@ -53,6 +53,11 @@ module _ {begun : Chip} (fresh : Fresh begun) {calls : List Call} {chip : Chip} 
   pub code-no-room-answered : (kind : Kind) (q : Call) → q .op ≡ creationOf kind → (o : Outcome) → Called q chip o → o .answer .refusal ≡ NO-ROOM → Full kind (remaining h)
   code-no-room-answered kind q number o c e =
       rw (run-history run) (no-room-answered begun fresh calls kind q number (rw (as-step q chip o c, run-after run) at e))
+
+  -- **A creation that is done gives the number that comes next.**
+  pub code-next-number : (kind : Kind) (q : Call) → q .op ≡ creationOf kind → (o : Outcome) → Called q chip o → o .answer .refusal ≡ done → ComesNext kind (remaining h) (o .answer .value)
+  code-next-number kind q number o c e =
+      rw (as-step q chip o c, run-history run, run-after run) (next-number begun fresh calls kind q number (rw (as-step q chip o c, run-after run) at e))
 
 -- ---- a library that opens a session as it should and from then on only answers
 

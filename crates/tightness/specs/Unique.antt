@@ -7,6 +7,7 @@ use Rattle.session.specs.Step.{outcome}
 use Rattle.words.proofs.layout.base.Reads as words-layout-base
 use Rattle.words.proofs.layout.stride.Reads as words-layout-stride
 use Rattle.words.proofs.layout.count.Reads as words-layout-count
+use Rattle.words.proofs.layout.cursor.Reads as words-layout-cursor
 use Rattle.words.proofs.layout.place.Reads as words-layout-place
 use Rattle.words.proofs.fields.label.Reads as words-fields-label
 use Rattle.words.proofs.fields.name_in.Reads as words-fields-name-in
@@ -32,6 +33,7 @@ use Rattle.words.proofs.entries.read.Reads as words-entries-read
 use Rattle.words.proofs.entries.present.Reads as words-entries-present
 use Rattle.words.proofs.entries.first_word.Reads as words-entries-first-word
 use Rattle.words.proofs.entries.write.Reads as words-entries-write
+use Rattle.words.proofs.entries.cursor_in.Reads as words-entries-cursor-in
 use Rattle.words.proofs.entries.make.Reads as words-entries-make
 use Rattle.words.proofs.entries.clear.Reads as words-entries-clear
 use Rattle.words.proofs.search.next_free.Reads as words-search-next-free
@@ -96,6 +98,9 @@ words-layout-stride-one κs a x y s s′ p q = p ∙ sym q
 
 pub words-layout-count-one : (κs : _) (a : _) (x y : _) (s s′ : _) → words-layout-count.Post κs a x s → words-layout-count.Post κs a y s′ → x ≡ y
 words-layout-count-one κs a x y s s′ p q = p ∙ sym q
+
+pub words-layout-cursor-one : (κs : _) (a : _) (x y : _) (s s′ : _) → words-layout-cursor.Post κs a x s → words-layout-cursor.Post κs a y s′ → x ≡ y
+words-layout-cursor-one κs a x y s s′ p q = p ∙ sym q
 
 pub words-layout-place-one : (κs : _) (a : _) (x y : _) (s s′ : _) → words-layout-place.Post κs a x s → words-layout-place.Post κs a y s′ → x ≡ y
 words-layout-place-one κs a x y s s′ p q = p ∙ sym q
@@ -171,6 +176,9 @@ words-entries-first-word-one κs a x y s s′ p q = p ∙ sym q
 
 pub words-entries-write-one : (κs : _) (a : _) (x y : _) (s s′ : _) → words-entries-write.Post κs a x s → words-entries-write.Post κs a y s′ → now (s .0) ≡ now (s′ .0)
 words-entries-write-one κs a x y s s′ p q = p ∙ sym q
+
+pub words-entries-cursor-in-one : (κs : _) (a : _) (x y : _) (s s′ : _) → words-entries-cursor-in.Post κs a x s → words-entries-cursor-in.Post κs a y s′ → x ≡ y
+words-entries-cursor-in-one κs a x y s s′ p q = p ∙ sym q
 
 pub words-entries-make-one : (κs : _) (a : _) (x y : _) (s s′ : _) → words-entries-make.Post κs a x s → words-entries-make.Post κs a y s′ → now (s .0) ≡ now (s′ .0)
 words-entries-make-one κs a x y s s′ p q = p ∙ sym q

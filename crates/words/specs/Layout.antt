@@ -1,14 +1,14 @@
--- Where the entries of a table stand: a row of numbers for each kind, and all else follows from the rows.
+-- Where the entries of a table and their cursors stand: a row of numbers for each kind, and all else follows from the rows.
 use Prim.Native.Nat.{ℕ, _+_, _*_}
 use Rattle.words.specs.declared.layout.Kind.{Kind}
 use Rattle.words.specs.declared.layout.Kind.the-variants.{Model, SchemaInstance, Instance}
 use Rattle.words.specs.declared.layout.Row.{Row}
 
--- CHIP, words of a table: places and counts
+-- CHIP, words of a table: places, counts and cursors
 abbrev pub rowOf : Kind → Row
-rowOf Model = record { base = 0; stride = 1; count = 64 }
-rowOf SchemaInstance = record { base = 64; stride = 2; count = 16 }
-rowOf Instance = record { base = 96; stride = 5; count = 128 }
+rowOf Model = record { base = 0; stride = 1; count = 64; cursor = 736 }
+rowOf SchemaInstance = record { base = 64; stride = 2; count = 16; cursor = 737 }
+rowOf Instance = record { base = 96; stride = 5; count = 128; cursor = 738 }
 
 -- the first word of the kind's entry 0
 abbrev pub baseOf : Kind → ℕ
@@ -26,9 +26,13 @@ countOf kind = rowOf kind .count
 abbrev pub placeOf : Kind → ℕ → ℕ
 placeOf kind i = baseOf kind + strideOf kind * i
 
--- the words in use end with the last kind's last entry: 736 (CHIP, words of a table)
+-- the word of the cursor
+abbrev pub cursorOf : Kind → ℕ
+cursorOf kind = rowOf kind .cursor
+
+-- the words in use end with the last kind's cursor: 739 (CHIP, words of a table)
 abbrev pub words : ℕ
-words = placeOf Instance (countOf Instance)
+words = cursorOf Instance + 1
 
 -- kinds told apart by a number
 abbrev pub indexOf : Kind → ℕ

@@ -56,10 +56,10 @@ fn given(block: [u64; WORDS], to: &mut [u64])
     requires { ⌜ (length block ≡ words) × (words ≤ length (now to)) ⌝ }
     ensures { λ _. ⌜ now (to .exit) ≡ take words block ++ drop words (now (to .entry)) ⌝ }
 {
-    let mut i = 0;
-    while i < WORDS {
-        to[i] = block[i];
-        i += 1;
+    let mut at = 0;
+    while at < WORDS {
+        to[at] = block[at];
+        at += 1;
     }
 }
 

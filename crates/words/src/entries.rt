@@ -1,14 +1,15 @@
-// Reading and writing the words of an entry. A number past the last entry reads as free, and
+// Reading and writing the words of an entry, and the cursor of a kind. A number past the last entry reads as free, and
 // writing there changes nothing.
 ghost use mathlib.Core.Path.{_≡_};
 ghost use Prim.Native.Nat.{_<_};
 ghost use lib.ListN.{length, getD, set};
-ghost use Rattle.words.specs.Layout.{strideOf, countOf, placeOf};
-ghost use Rattle.words.specs.Entries.{inEntry, wordOf, withWord, filled, withEntry, withoutEntry};
+ghost use Rattle.words.specs.Layout.{countOf, placeOf};
+ghost use Rattle.words.specs.Entries.{inEntry, wordOf, withWord, cursorIn, onePast, withWords, withEntry, withoutEntry};
 ghost use Rattle.words.specs.Quick.Present.{presentIn, Present};
 use crate::layout::Kind;
 use crate::layout::base;
 use crate::layout::count;
+use crate::layout::cursor;
 use crate::layout::place;
 use crate::layout::stride;
 
@@ -78,9 +79,24 @@ pub fn write(t: &mut [u64], kind: Kind, i: u32, k: u32, w: u64)
     }
 }
 
+// The number that is tried first.
+pub fn cursor_in(t: &[u64], kind: Kind) -> u64
+    ensures { λ r. ⌜ r ≡ cursorIn (now (t .entry)) kind ⌝ }
+{
+    get(t, cursor(kind))
+}
+
+// Going round: 0 after the last.
+fn one_past(kind: Kind, i: u32) -> u32
+    ensures { λ r. ⌜ r ≡ onePast kind i ⌝ }
+{
+    let last = count(kind) - 1;
+    if i < last { i + 1 } else { 0 }
+}
+
 // A first word and zeros after it, over the entry's stride.
 fn fill(t: &mut [u64], kind: Kind, i: u32, first: u64)
-    ensures { λ _. ⌜ now (t .exit) ≡ filled (now (t .entry)) kind i first (strideOf kind) ⌝ }
+    ensures { λ _. ⌜ now (t .exit) ≡ withWords (now (t .entry)) kind i first ⌝ }
 {
     let n = stride(kind);
     let mut w = first;
@@ -92,14 +108,15 @@ fn fill(t: &mut [u64], kind: Kind, i: u32, first: u64)
     }
 }
 
-// Entry i is made.
+// Entry i is made, and the next one is tried one past it.
 pub fn make(t: &mut [u64], kind: Kind, i: u32, first: u64)
     ensures { λ _. ⌜ now (t .exit) ≡ withEntry (now (t .entry)) kind i first ⌝ }
 {
     fill(t, kind, i, first);
+    put(t, cursor(kind), one_past(kind, i) as u64);
 }
 
-// Entry i is free again.
+// Entry i is free again. The cursor stays: a deletion does not bring its number nearer.
 pub fn clear(t: &mut [u64], kind: Kind, i: u32)
     ensures { λ _. ⌜ now (t .exit) ≡ withoutEntry (now (t .entry)) kind i ⌝ }
 {

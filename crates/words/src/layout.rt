@@ -1,9 +1,10 @@
-// Where the entries of a table stand: a row of numbers for each kind. Each number of the layout is named here alone.
+// Where the entries of a table and their cursors stand: a row of numbers for each kind. Each number of the layout is named here
+// alone.
 ghost use mathlib.Core.Path.{_≡_};
-ghost use Rattle.words.specs.Layout.{rowOf, baseOf, strideOf, countOf, placeOf};
+ghost use Rattle.words.specs.Layout.{rowOf, baseOf, strideOf, countOf, placeOf, cursorOf};
 
 // The words in use. Words from here on are never read or written.
-pub const WORDS: usize = 736;
+pub const WORDS: usize = 739;
 
 pub enum Kind {
     Model,
@@ -11,11 +12,12 @@ pub enum Kind {
     Instance,
 }
 
-// The first word of the kind's entry 0, how many words an entry has, and how many entries there are.
+// The first word of the kind's entry 0, how many words an entry has, how many entries there are, and the word of the cursor.
 pub struct Row {
     pub base: usize,
     pub stride: usize,
     pub count: u32,
+    pub cursor: usize,
 }
 
 fn row_of(kind: Kind) -> Row
@@ -26,16 +28,19 @@ fn row_of(kind: Kind) -> Row
             base: 0,
             stride: 1,
             count: 64,
+            cursor: 736,
         },
         Kind::SchemaInstance => Row {
             base: 64,
             stride: 2,
             count: 16,
+            cursor: 737,
         },
         Kind::Instance => Row {
             base: 96,
             stride: 5,
             count: 128,
+            cursor: 738,
         },
     }
 }
@@ -56,6 +61,12 @@ pub fn count(kind: Kind) -> u32
     ensures { λ r. ⌜ r ≡ countOf kind ⌝ }
 {
     row_of(kind).count
+}
+
+pub fn cursor(kind: Kind) -> usize
+    ensures { λ r. ⌜ r ≡ cursorOf kind ⌝ }
+{
+    row_of(kind).cursor
 }
 
 // The first word of entry i.

@@ -16,6 +16,8 @@ use Rattle.words.specs.Entries.{wordOf}
 use Rattle.words.specs.Laws.Sets.{has-none}
 use Rattle.words.specs.Laws.Copies.{Agreeing, agree-entries}
 use Rattle.state.specs.declared.state.State.{State}
+use Rattle.tables.specs.declared.changes.Change.{Change}
+use Rattle.tables.specs.Changes.{apply}
 use Rattle.session.specs.declared.effects.Tables.{Tables}
 use Rattle.state.specs.Refusals.{done}
 use Rattle.session.specs.Operations.{operationOf}
@@ -23,36 +25,48 @@ use Rattle.session.specs.Checks.{Check, gate}
 use Rattle.session.specs.Effects.{workingAfter, keptAfter}
 use Rattle.session.specs.Step.{Outcome}
 use Rattle.session.specs.Runs.{Call, Answered, Chip, Empty, Fresh, left, answeredBy, afterBy, historyBy, outcomeOf, after, history}
-use Rattle.promises.specs.Fresh.{no-word}
+use Rattle.promises.specs.Fresh.{no-word, no-cursor}
 use Rattle.promises.specs.Reached.{SoundChip, reached-sound}
-use Rattle.session.specs.Laws.Range.{Refusing, Clear, passed}
+use Rattle.session.specs.Laws.Range.{Clear, passed}
 use Rattle.promises.specs.Keeps.Ways.{Way, unsound, refusing, doing, way}
 use Rattle.promises.specs.Keeps.Facts.{SoundTable}
 use Rattle.promises.specs.Keeps.SessionFacts.{Sound, sound-test}
 use Rattle.promises.specs.Keeps.Copied.{copy-agrees, turned}
 use Rattle.history.specs.Remains.{drops, remainingIf}
 use Rattle.history.specs.Live.{Member, SetTo}
-use Rattle.history.specs.Demand3.{Asked, creationOf}
+use Rattle.history.specs.Demand3.{Asked, creationOf, triedFirst}
 use Rattle.history.specs.Proofs.Saying.{Said, saying}
-use Rattle.history.specs.Proofs.Reading.{Tests, asked, told, isDrop, isCommit, wordAsked, gave-number, creation-is, doneBy, reads}
+use Rattle.history.specs.Proofs.Reading.{Tests, asked, told, isDrop, isCommit, inSaid, wordAsked, gave-number, creation-is, doneBy, reads}
 use Rattle.history.specs.Proofs.Since.{since-nothing}
 use Rattle.history.specs.Proofs.Told.{Words, Told, told-on, told-past}
+use Rattle.history.specs.Proofs.Cursors.{Points, agree-points, points-past, points-on}
 use Rattle.history.specs.Proofs.Deleting.{no-flag-free}
 use Rattle.history.specs.Proofs.Speaking.{Speaks, quiet, change, commit, commit-clean, drop, drop-clean, speaks, creation-holds}
 
--- ---- tables that agree tell alike
+-- ---- what a table shows of a history: its words tell it, and its cursors point past it
 
-pub agree-told : (a b : List ℕ) (r : List Answered) → Agreeing a b → Told (wordOf a) r → Told (wordOf b) r
-agree-told a b r h t = subst (λ (e : Words). Told e r) (λ i kind n k. agree-entries a b h kind n k i) t
+pub record Shows (t : List ℕ) (h : List Answered) : Type 0 where
+  pub words-told : Told (wordOf t) h
+  pub points : Points t h
+
+-- tables that agree show the same
+agree-shows : (a b : List ℕ) (r : List Answered) → Agreeing a b → Shows a r → Shows b r
+agree-shows a b r h t = record {
+  words-told = subst (λ (e : Words). Told e r) (λ i kind n k. agree-entries a b h kind n k i) (t .words-told);
+  points = agree-points a b r h (t .points);
+}
+
+shows-past : (x : Answered) (s : Said) → asked x ≡ told s → ((f : Change → Bool) → inSaid f s ≡ false) → (h : List Answered) (t : List ℕ) → Shows t h → Shows t (x ∷ h)
+shows-past x s r none h t w = record { words-told = told-past x s r none h (wordOf t) (w .words-told); points = points-past x s r none h t (w .points) }
 
 -- ---- one call more
 
 record Both (w k : List ℕ) (x : Answered) (h : List Answered) : Type 0 where
-  working : Told (wordOf w) (remainingIf (x ∷ h) false)
-  kept : Told (wordOf k) (remainingIf (x ∷ h) true)
+  working : Shows w (remainingIf (x ∷ h) false)
+  kept : Shows k (remainingIf (x ∷ h) true)
 
 module _ (w k : List ℕ) (hw : SoundTable w) (hk : SoundTable k) (h : List Answered)
-    (tw : Told (wordOf w) (remainingIf h false)) (tk : Told (wordOf k) (remainingIf h true)) where
+    (tw : Shows w (remainingIf h false)) (tk : Shows k (remainingIf h true)) where
   -- a call that is refused is struck out
   struck : (x : Answered) → (x .refusal ≡ done → ⊥) → Both w k x h
   unfolding remainingIf
@@ -72,21 +86,27 @@ module _ (w k : List ℕ) (hw : SoundTable w) (hk : SoundTable k) (h : List Answ
     unfolding remainingIf
     pended s r = rw was-done (ap (λ (t : Tests). remainingIf h (t .drops || not (t .commits))) r)
 
-    both : (s : Said) (w′ k′ : List ℕ) → asked x ≡ told s → Told (wordOf w′) (x ∷ remainingIf h (isDrop s))
-        → Told (wordOf k′) (remainingIf h (isDrop s || not (isCommit s))) → Both w′ k′ x h
+    both : (s : Said) (w′ k′ : List ℕ) → asked x ≡ told s → Shows w′ (x ∷ remainingIf h (isDrop s))
+        → Shows k′ (remainingIf h (isDrop s || not (isCommit s))) → Both w′ k′ x h
     both s w′ k′ r a b = record { working = rw (appended s r) a; kept = rw (pended s r) b }
 
     spoken : (s : Said) (tables : Tables) → asked x ≡ told s → Speaks w k s tables → Both (workingAfter tables w k) (keptAfter tables w k) x h
-    spoken s tables r quiet = both s _ _ r (told-past x s r (λ f. refl) _ _ tw) tk
-    spoken s tables r (change c a) = both s _ _ r (told-on x c r _ _ _ tw (λ kind n g. fits kind (gave-number (creationOf kind) n x g)) a) tk
-    spoken s tables r commit = both s _ _ r (told-past x s r (λ f. refl) _ _ tw) (agree-told w _ _ (copy-agrees w k hw hk) tw)
-    spoken s tables r (commit-clean e) = both s _ _ r (told-past x s r (λ f. refl) _ _ tw) (agree-told w k _ e tw)
-    spoken s tables r drop = both s _ _ r (told-past x s r (λ f. refl) _ _ (agree-told k _ _ (copy-agrees k w hk hw) tk)) tk
-    spoken s tables r (drop-clean e) = both s _ _ r (told-past x s r (λ f. refl) _ _ (agree-told k w _ (turned w k e) tk)) tk
+    spoken s tables r quiet = both s _ _ r (shows-past x s r (λ f. refl) _ _ tw) tk
+    spoken s tables r (change c a) = both s _ _ r changed tk
+      where
+        changed : Shows (apply c w) (x ∷ remainingIf h false)
+        changed = record {
+          words-told = told-on x c r _ _ _ (tw .words-told) (λ kind n g. fits kind (gave-number (creationOf kind) n x g)) a;
+          points = points-on x _ w (hw .long) (tw .points) c r;
+        }
+    spoken s tables r commit = both s _ _ r (shows-past x s r (λ f. refl) _ _ tw) (agree-shows w _ _ (copy-agrees w k hw hk) tw)
+    spoken s tables r (commit-clean e) = both s _ _ r (shows-past x s r (λ f. refl) _ _ tw) (agree-shows w k _ e tw)
+    spoken s tables r drop = both s _ _ r (shows-past x s r (λ f. refl) _ _ (agree-shows k _ _ (copy-agrees k w hk hw) tk)) tk
+    spoken s tables r (drop-clean e) = both s _ _ r (shows-past x s r (λ f. refl) _ _ (agree-shows k w _ (turned w k e) tk)) tk
 
 pub record Holds (chip : Chip) (h : List Answered) : Type 0 where
-  pub working : Told (wordOf (chip .working)) (remainingIf h false)
-  pub kept : Told (wordOf (chip .kept)) (remainingIf h true)
+  pub working : Shows (chip .working) (remainingIf h false)
+  pub kept : Shows (chip .kept) (remainingIf h true)
 
 -- a number that no operation has does not pass the gate
 reads-done : (q : Call) (value : ℕ) (s : State) (rest : List Check) → Clear (gate (operationOf (q .op)) s ++ rest)
@@ -125,8 +145,12 @@ module _ (t : List ℕ) (h : Empty t) where
     attributes = λ i k v. ((λ x. absurd (since-nothing (x .2))), (λ w. clash (flagged 0 k) (rw (no-word t h Instance i 0) at (w .set)) (no-flag-free k)));
   }
 
+  empty-shows : Shows t []
+  unfolding triedFirst
+  empty-shows = record { words-told = empty-told; points = no-cursor t h }
+
 module _ (begun : Chip) (fresh : Fresh begun) where
   pub holds : (calls : List Call) → Holds (after begun calls) (history begun calls)
   unfolding afterBy historyBy remainingIf
-  holds [] = record { working = empty-told (begun .working) (fresh .working); kept = empty-told (begun .kept) (fresh .kept) }
+  holds [] = record { working = empty-shows (begun .working) (fresh .working); kept = empty-shows (begun .kept) (fresh .kept) }
   holds (q ∷ calls) = called q (after begun calls) (history begun calls) (reached-sound begun fresh calls) (holds calls)

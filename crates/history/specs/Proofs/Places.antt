@@ -4,6 +4,7 @@ use mathlib.Core.Path.{_≡_, refl, ap, sym, _∙_}
 use mathlib.Core.Bool.{Bool, true, false, cond, not}
 use mathlib.Core.Logic.{_↔_, ⊎-elim}
 use mathlib.Core.List.{List, [], _∷_}
+use native.Mathlib.Decide.{decLt}
 use native.Mathlib.Omega.{arith}
 use lib.Dec.{eqb}
 use borrow.Author.Tests.{eq-eqb, ne-eqb}
@@ -26,16 +27,19 @@ use Rattle.session.specs.Rows.{refusalOf, effect}
 use Rattle.session.specs.Step.{Outcome, core}
 use Rattle.promises.specs.Core.{core-on-sound}
 use Rattle.promises.specs.Keeps.Frame.{same-or-not, not-free-live}
+use Rattle.promises.specs.Keeps.SessionFacts.{sound-test}
+use Rattle.promises.specs.Keeps.Ways.{Way, unsound, refusing, doing, way}
 use Rattle.session.specs.Runs.{Call, Answered, Chip, Fresh, answeredBy, historyBy, outcomeOf, after, history}
 use Rattle.promises.specs.Reached.{reached-sound}
 use Rattle.history.specs.Remains.{remainingIf, remaining}
-use Rattle.history.specs.Demand3.{Full, creationOf, Creates, Takes, Deletes, lastOf}
+use Rattle.history.specs.Demand3.{Full, creationOf, Creates, Takes, Deletes, ComesNext, lastOf}
 use Rattle.history.specs.Proofs.Saying.{firstWord}
 use Rattle.history.specs.Proofs.Reading.{creator, creation-is}
 use Rattle.history.specs.Proofs.Since.{lives}
 use Rattle.history.specs.Proofs.Told.{Told}
 use Rattle.history.specs.Proofs.Kept.{holds}
-use Rattle.history.specs.Proofs.Room.{creation-told, refusal-told, value-told, room-told, has-room, takes-free, deletion-remains, freed-found}
+use Rattle.history.specs.Proofs.Room.{creation-told, refusal-told, value-told, room-told, has-room, takes-free, wants-room, deletion-remains, freed-found}
+use Rattle.history.specs.Proofs.Next.{next-comes}
 
 pub last-below : (kind : Kind) → lastOf kind < countOf kind
 last-below Model = omega arith
@@ -84,7 +88,7 @@ module _ (begun : Chip) (fresh : Fresh begun) (calls : List Call) where
     unfolding remaining chip
     refused-when-full =
         rw refuses
-        (room-told kind (firstWord kind (q .a) (q .b) (q .c)) (chip .session .state) (chip .working) (remaining (history begun calls)) (holds begun fresh calls .working))
+        (room-told kind (firstWord kind (q .a) (q .b) (q .c)) (chip .session .state) (chip .working) (remaining (history begun calls)) (holds begun fresh calls .working .words-told))
 
     -- where there is room it takes the next free number
     takes-next : nextFree (chip .working) kind < countOf kind → Takes (nextFree (chip .working) kind) (outcomeOf (after begun calls) q)
@@ -104,6 +108,31 @@ module _ (begun : Chip) (fresh : Fresh begun) (calls : List Call) where
     unfolding chip
     takes-free-place n l e = rw e at (takes-next (omega arith))
 
+    -- one that is done had room, and its number comes next
+    pub done-comes : outcomeOf (after begun calls) q .answer .refusal ≡ done → ComesNext kind (remaining (history begun calls)) (outcomeOf (after begun calls) q .answer .value)
+    unfolding chip remaining
+    done-comes e = by-cases (decLt (nextFree (chip .working) kind) (countOf kind))
+      where
+        by-cases : Dec (nextFree (chip .working) kind < countOf kind) → ComesNext kind (remaining (history begun calls)) (outcomeOf (after begun calls) q .answer .value)
+        by-cases (yes l) =
+            let shown = holds begun fresh calls .working in
+            let good = sound-test (chip .session) (chip .working) (chip .kept) .holds (reached-sound begun fresh calls) .tables .working in
+            rw (takes-next l .number) (next-comes kind (chip .working) (remaining (history begun calls)) (shown .words-told) (shown .points) (good .cursors kind) l)
+        by-cases (no l) = absurd (omega (arith, sym e ∙ refuses ∙ wants-room kind (firstWord kind (q .a) (q .b) (q .c)) (chip .session .state) (chip .working) (omega arith)))
+
+  -- a done call passed its checks
+  pub done-passes : (q : Call) → outcomeOf (after begun calls) q .answer .refusal ≡ done
+      → refusalOf (operationOf (q .op)) (q .a) (q .b) (q .c) (after begun calls .session .state) (after begun calls .working) ≡ done
+  done-passes q e =
+      let now = after begun calls in
+      by-way (outcomeOf now q) (way (q .op) (q .a) (q .b) (q .c) (now .session) (now .working) (now .kept)) e
+    where
+      by-way : (o : Outcome) → Way (q .op) (q .a) (q .b) (q .c) (after begun calls .session) (after begun calls .working) (after begun calls .kept) o → o .answer .refusal ≡ done
+          → refusalOf (operationOf (q .op)) (q .a) (q .b) (q .c) (after begun calls .session .state) (after begun calls .working) ≡ done
+      by-way o (unsound u) d = clash _ (reached-sound begun fresh calls) u
+      by-way o (refusing r s f) d = absurd (omega (arith, d, f .from))
+      by-way o (doing s p f) d = p
+
   -- a creation that is refused with NO_ROOM passed its other checks
   pub full-when-refused : (kind : Kind) (q : Call) → q .op ≡ creationOf kind → outcomeOf (after begun calls) q .answer .refusal ≡ NO-ROOM
       → Full kind (remaining (history begun calls))
@@ -122,7 +151,7 @@ module _ (begun : Chip) (fresh : Fresh begun) (calls : List Call) where
   unfolding Full remaining
   live-when-full kind n l f =
       let x = f n l in
-      not-free-live (after begun calls .working) kind n (holds begun fresh calls .working .made-by kind n (x .0) (lives kind n (x .0) _ (x .1)) .entry .live)
+      not-free-live (after begun calls .working) kind n (holds begun fresh calls .working .words-told .made-by kind n (x .0) (lives kind n (x .0) _ (x .1)) .entry .live)
 
   -- the place that a deletion frees in a full table is the next free one
   pub freed-is-found : (kind : Kind) (n : ℕ) → n < countOf kind → Full kind (remaining (history begun calls)) → (q : Call)
@@ -131,5 +160,5 @@ module _ (begun : Chip) (fresh : Fresh begun) (calls : List Call) where
   freed-is-found kind n l f q d =
       let x : Answered = answeredBy q (outcomeOf (after begun calls) q) in
       let there : Told (wordOf (after begun (q ∷ calls) .working)) (x ∷ remainingIf (history begun calls) false) =
-      rw (deletion-remains kind x (d .was-done) (d .operation) (history begun calls)) at (holds begun fresh (q ∷ calls) .working) in
+      rw (deletion-remains kind x (d .was-done) (d .operation) (history begun calls)) at (holds begun fresh (q ∷ calls) .working .words-told) in
       freed-found kind x (d .operation) (rw (d .number) l) (after begun (q ∷ calls) .working) _ there f ∙ d .number

@@ -10,7 +10,7 @@ use Rattle.words.specs.declared.layout.Kind.{Kind}
 use Rattle.words.specs.declared.layout.Kind.the-variants.{Model, SchemaInstance, Instance}
 use Rattle.words.specs.Sets.{has}
 use Rattle.words.specs.Fields.{headerOf, typeIn, modelIn, isFree, flagged}
-use Rattle.words.specs.Entries.{wordOf}
+use Rattle.words.specs.Entries.{wordOf, cursorIn}
 use Rattle.words.specs.Laws.Fields.{type-of-header, model-of-header}
 use Rattle.tables.specs.declared.changes.Change.{Change}
 use Rattle.tables.specs.declared.changes.Change.the-variants.{Made, Gone, Joined, Left, Put, Unset}
@@ -18,7 +18,7 @@ use Rattle.logic.specs.Laws.Bools.{clash}
 use Rattle.session.specs.Runs.{Call, Answered}
 use Rattle.history.specs.Remains.{ofBoth, gave}
 use Rattle.history.specs.Live.{Since, now, still, Member, SetTo, isR, undoes, Puts}
-use Rattle.history.specs.Demand3.{Asked, Tells, creationOf}
+use Rattle.history.specs.Demand3.{Asked, Tells, creationOf, triedFirst}
 use Rattle.history.specs.Proofs.Saying.{Said, changes, makes, takes, joins, leaves, puts, unsets, names, partedBy, refersBy, undoneBy}
 use Rattle.history.specs.Proofs.Since.{since-cases, Lives, lives, is-live, own-lives, named-lives}
 use Rattle.history.specs.Proofs.Reading.{Tests, asked, told, inSaid, wordAsked, ended, gave-said, of-said, parts-said, made-said, said-made, joined-said}
@@ -74,8 +74,8 @@ holds-asked Model w q e a = rw e a
 holds-asked SchemaInstance w q e a = rw e a
 holds-asked Instance w q e a = (sym (shown-model w) ∙ ap modelIn e ∙ a .0, sym (shown-type w) ∙ ap typeIn e ∙ a .1)
 
-pub tells-of : (t : List ℕ) (h : List Answered) → Told (wordOf t) h → Tells t h
-tells-of t h w = record {
+pub tells-of : (t : List ℕ) (h : List Answered) → Told (wordOf t) h → ((kind : Kind) → cursorIn t kind ≡ triedFirst kind h) → Tells t h
+tells-of t h w points = record {
   live = λ kind n. (
     (λ x. not-live _ (w .made-by kind n (x .0) (lives kind n (x .0) h (x .1)) .entry .live)),
     (λ l. let x = w .live kind n (not-free _ l) in (x .0, is-live kind n (x .0) h (x .1))),
@@ -83,6 +83,7 @@ tells-of t h w = record {
   asked = λ kind n q l. let m = w .made-by kind n q (lives kind n q h l) in holds-asked kind _ q (m .entry .shows) (m .asked);
   members = w .members;
   attributes = λ i k v. ((λ s. let x = w .attributes i k v .0 s in (x .set, x .value)), (λ x. w .attributes i k v .1 (record { set = x .0; value = x .1 })));
+  cursors = points;
 }
 
 -- ---- what becomes of an entry, of a member and of an attribute

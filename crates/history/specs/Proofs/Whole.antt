@@ -14,7 +14,7 @@ use Rattle.logic.specs.Laws.Bools.{and-right}
 use Rattle.logic.specs.Laws.Decides.{same-test, itself}
 use Rattle.words.specs.declared.layout.Kind.{Kind}
 use Rattle.words.specs.declared.layout.Kind.the-variants.{Model, SchemaInstance, Instance}
-use Rattle.words.specs.Layout.{words, strideOf, countOf, placeOf}
+use Rattle.words.specs.Layout.{words, strideOf, countOf, placeOf, cursorOf}
 use Rattle.words.specs.Sets.{bitOf, has}
 use Rattle.words.specs.Fields.{typeIn, modelIn, flagsIn, values, flagged}
 use Rattle.words.specs.Entries.{wordOf, freeAt}
@@ -154,10 +154,10 @@ module _ (t u : List ℕ) (ht : SoundTable t) (hu : SoundTable u) (h : List Answ
           unset-zero t (attributeOf (typeAt t n) k) (valueAt t n k) (rw s at (ht .instances n l .valued e k m))
           ∙ sym (unset-zero u (attributeOf (typeAt u n) k) (valueAt u n k) (rw (sym (same-flag n k) ∙ s) at (hu .instances n l .valued there k m)))
 
-  -- ---- every word in use is one of an entry
+  -- ---- every word in use is one of an entry, or a cursor
 
   same-word : (i : ℕ) → i < words → getD t i 0 ≡ getD u i 0
-  same-word i l = by-kind (decLt i 64) (decLt i 96)
+  same-word i l = by-kind (decLt i 64) (decLt i 96) (decLt i 736)
     where
       moved : (kind : Kind) (n k : ℕ) → n < countOf kind → k < strideOf kind → placeOf kind n + k ≡ i → wordOf t kind n k ≡ wordOf u kind n k → getD t i 0 ≡ getD u i 0
       moved kind n k hn hk e same = sym (at-place t kind n k i hn hk e) ∙ same ∙ at-place u kind n k i hn hk e
@@ -167,15 +167,24 @@ module _ (t u : List ℕ) (ht : SoundTable t) (hu : SoundTable u) (h : List Answ
       in-group (suc zero) hk e from to = moved SchemaInstance ((i - 64) / 2) 1 (omega arith) (omega arith) (omega arith) (same-set ((i - 64) / 2))
       in-group (suc (suc k)) hk e from to = absurd (omega arith)
 
-      in-instance : (k : ℕ) → k < 5 → (i - 96) % 5 ≡ k → 96 ≤ i → getD t i 0 ≡ getD u i 0
-      in-instance zero hk e from = moved Instance ((i - 96) / 5) 0 (omega arith) (omega arith) (omega arith) (header-word ((i - 96) / 5) (omega arith))
-      in-instance (suc k) hk e from =
+      in-instance : (k : ℕ) → k < 5 → (i - 96) % 5 ≡ k → 96 ≤ i → i < 736 → getD t i 0 ≡ getD u i 0
+      in-instance zero hk e from to = moved Instance ((i - 96) / 5) 0 (omega arith) (omega arith) (omega arith) (header-word ((i - 96) / 5) (omega arith))
+      in-instance (suc k) hk e from to =
           moved Instance ((i - 96) / 5) (1 + k) (omega arith) (omega arith) (omega arith) (value-word ((i - 96) / 5) k (omega arith) (omega arith))
 
-      by-kind : Dec (i < 64) → Dec (i < 96) → getD t i 0 ≡ getD u i 0
-      by-kind (yes m) p = moved Model i 0 m (omega arith) (omega arith) (model-word i m)
-      by-kind (no m) (yes p) = in-group ((i - 64) % 2) (omega arith) refl (omega arith) p
-      by-kind (no m) (no p) = in-instance ((i - 96) % 5) (omega arith) refl (omega arith)
+      cursor : (kind : Kind) → cursorOf kind ≡ i → getD t i 0 ≡ getD u i 0
+      cursor kind e = rw (← e) (a .cursors kind ∙ sym (b .cursors kind))
+
+      in-cursors : (k : ℕ) → i - 736 ≡ k → 736 ≤ i → getD t i 0 ≡ getD u i 0
+      in-cursors zero e from = cursor Model (omega arith)
+      in-cursors (suc zero) e from = cursor SchemaInstance (omega arith)
+      in-cursors (suc (suc k)) e from = cursor Instance (omega arith)
+
+      by-kind : Dec (i < 64) → Dec (i < 96) → Dec (i < 736) → getD t i 0 ≡ getD u i 0
+      by-kind (yes m) p q = moved Model i 0 m (omega arith) (omega arith) (model-word i m)
+      by-kind (no m) (yes p) q = in-group ((i - 64) % 2) (omega arith) refl (omega arith) p
+      by-kind (no m) (no p) (yes q) = in-instance ((i - 96) % 5) (omega arith) refl (omega arith) q
+      by-kind (no m) (no p) (no q) = in-cursors (i - 736) refl (omega arith)
 
   pub told-alike : agree t u ≡ true
   told-alike = agree-test t u .passes (record { left = ht .long; right = hu .long; alike = same-word })

@@ -9,11 +9,12 @@ use lib.ListN.{getD, set, length-set}
 use lib.Seq.{getD-set-same, getD-set-other}
 use Rattle.words.specs.declared.layout.Kind.{Kind}
 use Rattle.words.specs.declared.layout.Kind.the-variants.{Model, SchemaInstance, Instance}
-use Rattle.words.specs.Layout.{words, strideOf, countOf, placeOf}
+use Rattle.words.specs.Layout.{words, strideOf, countOf, placeOf, cursorOf}
 use Rattle.logic.specs.Search.{allB, anyB, firstFrom}
 use Rattle.words.specs.Fields.{values, isFree, withoutFlag, withFlag}
 use Rattle.words.specs.Sets.{bits, insert, remove}
-use Rattle.words.specs.Entries.{inEntry, wordOf, withWord, firstThenZeros, filled, nextFree}
+use Rattle.words.specs.Entries.{inEntry, wordOf, withWord, cursorIn, onePast, firstThenZeros, filled, firstFree, nextFree}
+use Rattle.words.specs.Laws.Layout.{cursor-in-use}
 use Rattle.words.specs.Laws.Entries.{entry-in-use}
 use Rattle.words.specs.Laws.Copies.{Agreeing, agree-entries}
 use Rattle.dictionary.specs.declared.answers.Attribute.{Attribute}
@@ -37,10 +38,6 @@ use Rattle.promises.specs.Keeps.Frame.{same-or-not}
 -- ---- what is read
 
 module _ (t u : List ℕ) (same : (kind : Kind) (i k : ℕ) → wordOf t kind i k ≡ wordOf u kind i k) where
-  next-alike : (kind : Kind) → nextFree t kind ≡ nextFree u kind
-  unfolding nextFree
-  next-alike kind = ap (λ (f : ℕ → Bool). firstFrom f (countOf kind - 0) 0) (fun-ext (λ i. ap isFree (same kind i 0)))
-
   share-alike : (m n : ℕ) → shareSet t m n ≡ shareSet u m n
   unfolding shareSet
   share-alike m n = simp same
@@ -73,30 +70,39 @@ module _ (t u : List ℕ) (same : (kind : Kind) (i k : ℕ) → wordOf t kind i 
   reader-alike reader.Get a b s = simp same
   reader-alike reader.Test a b s = simp same
 
-  writer-alike : (o : Writer) (a b c : ℕ) (s : State) → writerRow o a b c s t ≡ writerRow o a b c s u
-  writer-alike writer.CreateModel a b c s = simp (same, next-alike)
-  writer-alike writer.DeleteModel a b c s = simp (same, held-alike)
-  writer-alike writer.ReadWriteAccess a b c s = simp same
-  writer-alike writer.PromoteModel a b c s = simp same
-  writer-alike writer.CreateSchemaInstance a b c s = simp (same, next-alike)
-  writer-alike writer.DeleteSchemaInstance a b c s = simp same
-  writer-alike writer.AddModel a b c s = simp same
-  writer-alike writer.RemoveModel a b c s = simp same
-  writer-alike writer.CreateInstance a b c s = simp (same, next-alike)
-  writer-alike writer.DeleteInstance a b c s = simp (same, held-alike)
-  writer-alike writer.Put a b c s = simp (same, referring-alike)
-  writer-alike writer.Unset a b c s = simp same
-
-  pub row-alike : (o : Operation) (a b c : ℕ) (s : State) → rowOf o a b c s t ≡ rowOf o a b c s u
-  row-alike operation.Unlisted a b c s = refl
-  row-alike operation.Opening a b c s = refl
-  row-alike (operation.InSession o) a b c s = refl
-  row-alike (operation.Reader o) a b c s = reader-alike o a b s
-  row-alike (operation.Writer o) a b c s = writer-alike o a b c s
-
   pub access-alike : (s : State) → soundAccess t s ≡ soundAccess u s
   unfolding soundAccess
   access-alike s = ap (allB bits) (fun-ext (λ m. simp same))
+
+  -- and the same cursors
+  module _ (cursors : (kind : Kind) → cursorIn t kind ≡ cursorIn u kind) where
+    first-alike : (kind : Kind) (from : ℕ) → firstFree t kind from ≡ firstFree u kind from
+    first-alike kind from = ap (λ (f : ℕ → Bool). firstFrom f (countOf kind - from) from) (fun-ext (λ i. ap isFree (same kind i 0)))
+
+    next-alike : (kind : Kind) → nextFree t kind ≡ nextFree u kind
+    unfolding nextFree
+    next-alike kind = rw (cursors kind, first-alike kind (cursorIn u kind), first-alike kind 0)
+
+    writer-alike : (o : Writer) (a b c : ℕ) (s : State) → writerRow o a b c s t ≡ writerRow o a b c s u
+    writer-alike writer.CreateModel a b c s = simp (same, next-alike)
+    writer-alike writer.DeleteModel a b c s = simp (same, held-alike)
+    writer-alike writer.ReadWriteAccess a b c s = simp same
+    writer-alike writer.PromoteModel a b c s = simp same
+    writer-alike writer.CreateSchemaInstance a b c s = simp (same, next-alike)
+    writer-alike writer.DeleteSchemaInstance a b c s = simp same
+    writer-alike writer.AddModel a b c s = simp same
+    writer-alike writer.RemoveModel a b c s = simp same
+    writer-alike writer.CreateInstance a b c s = simp (same, next-alike)
+    writer-alike writer.DeleteInstance a b c s = simp (same, held-alike)
+    writer-alike writer.Put a b c s = simp (same, referring-alike)
+    writer-alike writer.Unset a b c s = simp same
+
+    pub row-alike : (o : Operation) (a b c : ℕ) (s : State) → rowOf o a b c s t ≡ rowOf o a b c s u
+    row-alike operation.Unlisted a b c s = refl
+    row-alike operation.Opening a b c s = refl
+    row-alike (operation.InSession o) a b c s = refl
+    row-alike (operation.Reader o) a b c s = reader-alike o a b s
+    row-alike (operation.Writer o) a b c s = writer-alike o a b c s
 
 -- ---- what is written
 
@@ -170,7 +176,7 @@ module _ (t u : List ℕ) (h : Agreeing t u) where
 
   pub apply-alike : (change : Change) → Agreeing (apply change t) (apply change u)
   unfolding apply
-  apply-alike (Made kind n first) = filled-alike t u h kind n first (strideOf kind)
+  apply-alike (Made kind n first) = set-alike _ _ (cursorOf kind) (onePast kind n) (cursor-in-use kind) (filled-alike t u h kind n first (strideOf kind))
   apply-alike (Gone kind n) = without-alike kind n
   apply-alike (Joined s m) = member-alike t u h s (λ x. insert x m)
   apply-alike (Left s m) = member-alike t u h s (λ x. remove x m)

@@ -15,7 +15,7 @@ use Rattle.words.specs.Fields.{labelOf, headerOf, nameIn, repositoryIn, schemaI
 use Rattle.words.specs.Entries.{freeAt, nextFree, isTaken}
 use Rattle.words.specs.Laws.Fields.{name-of-label, repository-of-label}
 use Rattle.words.specs.Laws.Layout.{kinds-apart}
-use Rattle.words.specs.Laws.Entries.{word-other, entry-other, next-is-free}
+use Rattle.words.specs.Laws.Entries.{word-other, entry-other, made-other, next-is-free}
 use Rattle.dictionary.specs.declared.answers.Attribute.the-variants.{Lacking}
 use Rattle.dictionary.specs.Dictionary.{isType, schemaOf, attributeOf, lacks}
 use Rattle.dictionary.specs.Laws.Types.{small-type}
@@ -78,7 +78,7 @@ module _ (x : Session) (w k : List ℕ) (h : Sound x w k) (opened : isOpen (x .s
         creation Model (labelOf a b c)
         (λ l f. table-changed x w _ k h opened writes
         (made-model w (nextFree w Model) (labelOf a b c) good l f (label-made a b c hr from to hc) (own-name Model free))
-        (λ m live. entry-other w Model (nextFree w Model) _ Model m 0 (λ _ same. clash _ f (live-not-free w Model (nextFree w Model) (rw same live)))))
+        (λ m live. made-other w Model (nextFree w Model) _ Model m 0 (λ _ same. clash _ f (live-not-free w Model (nextFree w Model) (rw same live)))))
         e
 
     pub group-created : isTaken w SchemaInstance a c ≡ false → created SchemaInstance (labelOf a b c) (x .state) w .refusal ≡ done
@@ -88,7 +88,7 @@ module _ (x : Session) (w k : List ℕ) (h : Sound x w k) (opened : isOpen (x .s
         creation SchemaInstance (labelOf a b c)
         (λ l f. table-changed x w _ k h opened writes
         (made-group w (nextFree w SchemaInstance) (labelOf a b c) good l (label-made a b c hr from to hc) (own-name SchemaInstance free))
-        (λ m live. entry-other w SchemaInstance (nextFree w SchemaInstance) _ Model m 0 (λ e _. kinds-apart e refl)))
+        (λ m live. made-other w SchemaInstance (nextFree w SchemaInstance) _ Model m 0 (λ e _. kinds-apart e refl)))
         e
 
   pub instance-created : (a b : ℕ) → isLive w Model a ≡ true → isType b ≡ true → schemaIn (labelAt w Model a) ≡ schemaOf b
@@ -99,7 +99,7 @@ module _ (x : Session) (w k : List ℕ) (h : Sound x w k) (opened : isOpen (x .s
       creation Instance (headerOf b a 0)
       (λ l f. table-changed x w _ k h opened writes
       (made-instance w (nextFree w Instance) b a good l f (small-type b there) there live schema)
-      (λ m live. entry-other w Instance (nextFree w Instance) _ Model m 0 (λ e _. kinds-apart e refl)))
+      (λ m live. made-other w Instance (nextFree w Instance) _ Model m 0 (λ e _. kinds-apart e refl)))
       e
 
   pub group-deleted : (s : ℕ) → isLive w SchemaInstance s ≡ true → After x w k (does 0 (x .state) (Changed (Gone SchemaInstance s)))

@@ -1,4 +1,4 @@
--- A table in which one entry is edited: what that entry must be for the table to stay sound.
+-- A table in which one entry is edited, or a cursor: what must hold of it for the table to stay sound.
 use mathlib.Core.Path.{_≡_, refl, sym, _∙_}
 use mathlib.Core.Bool.{true, false}
 use mathlib.Core.Logic.{_⊎_, inl, inr}
@@ -10,9 +10,9 @@ use Rattle.words.specs.declared.layout.Kind.{Kind}
 use Rattle.words.specs.declared.layout.Kind.the-variants.{Model, SchemaInstance, Instance}
 use Rattle.words.specs.Layout.{countOf}
 use Rattle.words.specs.Sets.{has}
-use Rattle.words.specs.Entries.{wordOf, freeAt, formed, withWord, withEntry}
-use Rattle.words.specs.Laws.Layout.{kinds-apart}
-use Rattle.words.specs.Laws.Entries.{length-word, word-other, length-entry, entry-other}
+use Rattle.words.specs.Entries.{wordOf, freeAt, formed, cursorIn, withWord, withCursor, withWords}
+use Rattle.words.specs.Laws.Layout.{kinds-apart, same-kind}
+use Rattle.words.specs.Laws.Entries.{length-word, word-other, word-cursor, length-entry, entry-other, entry-cursor, length-cursor, cursor-entries, cursor-same, cursor-other}
 use Rattle.tables.specs.View.{isLive, labelAt, setAt, modelAt}
 use Rattle.promises.specs.Keeps.Facts.{SameName, Distinct, SoundGroup, SoundInstance, SoundTable}
 use Rattle.promises.specs.Keeps.Frame.{same-or-not, distinct-kept, distinct-edited, group-stays, Lasts, lasts-same, instance-stays}
@@ -21,15 +21,54 @@ use Rattle.promises.specs.Keeps.Frame.{same-or-not, distinct-kept, disti
 pub record Rest (t t′ : List ℕ) (kind : Kind) (n : ℕ) : Type 0 where
   pub long : length t′ ≡ length t
   pub others : (kind′ : Kind) (i k : ℕ) → (kind ≡ kind′ → n ≡ i → ⊥) → wordOf t′ kind′ i k ≡ wordOf t kind′ i k
+  pub same-cursors : (kind′ : Kind) → cursorIn t′ kind′ ≡ cursorIn t kind′
 
 pub word-rest : (t : List ℕ) (kind : Kind) (n k w : ℕ) → Rest t (withWord t kind n k w) kind n
-word-rest t kind n k w = record { long = length-word t kind n k w; others = λ kind′ i j apart. word-other t kind n k w kind′ i j (λ s. apart (s .kinds) (s .numbers)) }
+word-rest t kind n k w = record {
+  long = length-word t kind n k w;
+  others = λ kind′ i j apart. word-other t kind n k w kind′ i j (λ s. apart (s .kinds) (s .numbers));
+  same-cursors = word-cursor t kind n k w;
+}
 
-pub entry-rest : (t : List ℕ) (kind : Kind) (n first : ℕ) → Rest t (withEntry t kind n first) kind n
-entry-rest t kind n first = record { long = length-entry t kind n first; others = λ kind′ i k apart. entry-other t kind n first kind′ i k apart }
+pub entry-rest : (t : List ℕ) (kind : Kind) (n first : ℕ) → Rest t (withWords t kind n first) kind n
+entry-rest t kind n first = record {
+  long = length-entry t kind n first;
+  others = λ kind′ i k apart. entry-other t kind n first kind′ i k apart;
+  same-cursors = entry-cursor t kind n first;
+}
 
 pub rest-then : (t t′ t″ : List ℕ) (kind : Kind) (n : ℕ) → Rest t t′ kind n → Rest t′ t″ kind n → Rest t t″ kind n
-rest-then t t′ t″ kind n a b = record { long = b .long ∙ a .long; others = λ kind′ i k apart. b .others kind′ i k apart ∙ a .others kind′ i k apart }
+rest-then t t′ t″ kind n a b = record {
+  long = b .long ∙ a .long;
+  others = λ kind′ i k apart. b .others kind′ i k apart ∙ a .others kind′ i k apart;
+  same-cursors = λ kind′. b .same-cursors kind′ ∙ a .same-cursors kind′;
+}
+
+-- a cursor moves: no entry's word is another
+module _ (t : List ℕ) (kind : Kind) (n : ℕ) (h : SoundTable t) (l : n < countOf kind) where
+  moved : List ℕ
+  moved = withCursor t kind n
+
+  same : (kind′ : Kind) (i k : ℕ) → wordOf moved kind′ i k ≡ wordOf t kind′ i k
+  unfolding moved
+  same = cursor-entries t kind n
+
+  in-range : (kind′ : Kind) → (kind ≡ kind′) ⊎ (kind ≡ kind′ → ⊥) → cursorIn moved kind′ < countOf kind′
+  unfolding moved
+  in-range kind′ (inl e) = rw (← e, cursor-same t kind n (h .long)) l
+  in-range kind′ (inr apart) = rw (cursor-other t kind n kind′ apart) (h .cursors kind′)
+
+  pub cursor-moved : SoundTable (withCursor t kind n)
+  unfolding moved
+  cursor-moved = record {
+    long = omega (arith, length-cursor t kind n, h .long);
+    cursors = λ kind′. in-range kind′ (same-kind kind kind′);
+    models = λ m b. rw (same Model m 0) (h .models m b);
+    model-names = distinct-kept t moved Model (λ i. same Model i 0) (h .model-names);
+    groups = λ s b. group-stays t moved s (same SchemaInstance s) (λ m e live. same Model m 0) (h .groups s b);
+    group-names = distinct-kept t moved SchemaInstance (λ i. same SchemaInstance i 0) (h .group-names);
+    instances = λ i b. instance-stays t moved i (same Instance i) (λ f live. same Model (modelAt t i) 0) (λ v live. lasts-same t moved v (same Instance v 0) live) (h .instances i b);
+  }
 
 module _ (t t′ : List ℕ) (n : ℕ) (h : SoundTable t) where
   module _ (r : Rest t t′ Model n) where
@@ -49,6 +88,7 @@ module _ (t t′ : List ℕ) (n : ℕ) (h : SoundTable t) where
         → SoundTable t′
     model-edited new names no-set no-instance = record {
       long = omega (arith, r .long, h .long);
+      cursors = λ kind. rw (r .same-cursors kind) (h .cursors kind);
       models = λ m l. models m l (same-or-not m n);
       model-names = distinct-edited t t′ Model n (λ i apart. other-model i 0 apart) names (h .model-names);
       groups = λ s l. group-stays t t′ s (same-group s) (λ m e live. other-model m 0 (λ p. no-set s (rw p at e) (rw p at live))) (h .groups s l);
@@ -75,6 +115,7 @@ module _ (t t′ : List ℕ) (n : ℕ) (h : SoundTable t) where
     pub group-edited : SoundGroup t′ n → Distinct t′ SchemaInstance → SoundTable t′
     group-edited new names = record {
       long = omega (arith, r .long, h .long);
+      cursors = λ kind. rw (r .same-cursors kind) (h .cursors kind);
       models = λ m l. rw (group-same-model m 0) (h .models m l);
       model-names = distinct-kept t t′ Model (λ i. group-same-model i 0) (h .model-names);
       groups = λ s l. groups s l (same-or-not s n);
@@ -106,6 +147,7 @@ module _ (t t′ : List ℕ) (n : ℕ) (h : SoundTable t) where
     pub instance-edited : SoundInstance t′ n → (isLive t Instance n ≡ true → Lasts t t′ n) → SoundTable t′
     instance-edited new own = record {
       long = omega (arith, r .long, h .long);
+      cursors = λ kind. rw (r .same-cursors kind) (h .cursors kind);
       models = λ m l. rw (instance-same-model m 0) (h .models m l);
       model-names = distinct-kept t t′ Model (λ i. instance-same-model i 0) (h .model-names);
       groups = λ s l. group-stays t t′ s (instance-same-group s) (λ m p live. instance-same-model m 0) (h .groups s l);

@@ -9,13 +9,13 @@ use Rattle.words.specs.declared.layout.Kind.the-variants.{Model, SchemaInstance
 use Rattle.words.specs.Layout.{words, countOf}
 use Rattle.words.specs.Sets.{none, bits, has}
 use Rattle.words.specs.Fields.{nameIn, repositoryIn, values, isFree}
-use Rattle.words.specs.Entries.{freeAt, formed}
-use Rattle.logic.specs.Laws.Decides.{Decides, both, equal, at-most, every, denied, restated, itself, choice, whenever, unless}
+use Rattle.words.specs.Entries.{cursorIn, freeAt, formed}
+use Rattle.logic.specs.Laws.Decides.{Decides, both, equal, at-most, less, every, denied, restated, itself, choice, whenever, unless}
 use Rattle.words.specs.Laws.Fields.{Label, label-test}
 use Rattle.words.specs.Laws.Copies.{Agreeing, agree-test}
 use Rattle.dictionary.specs.Dictionary.{attributeOf}
 use Rattle.tables.specs.View.{labelAt, setAt, headerAt, typeAt, isSet, valueAt}
-use Rattle.tables.specs.Sound.{sameName, distinct, mayJoin, soundGroup, soundValue, soundInstance, soundTable, soundTables}
+use Rattle.tables.specs.Sound.{sameName, distinct, mayJoin, soundGroup, soundValue, soundInstance, soundCursor, soundCursors, soundTable, soundTables}
 pub use Rattle.tables.specs.Laws.Sound.{SoundHeader, sound-header-test}
 
 -- ---- names
@@ -75,8 +75,24 @@ instance-test t i =
 
 -- ---- tables
 
+-- each cursor is the number of an entry
+abbrev pub Cursors : List ℕ → Type 0
+Cursors t = (kind : Kind) → cursorIn t kind < countOf kind
+
+cursors-test : (t : List ℕ) → Decides (soundCursors t) (Cursors t)
+cursors-test t = restated (both _ _ (both _ _ (each Model) (each SchemaInstance)) (each Instance)) by-kind (λ h. ((h Model, h SchemaInstance), h Instance))
+  where
+    each : (kind : Kind) → Decides (soundCursor t kind) (cursorIn t kind < countOf kind)
+    each kind = less (cursorIn t kind) (countOf kind)
+
+    by-kind : ((cursorIn t Model < countOf Model) × (cursorIn t SchemaInstance < countOf SchemaInstance)) × (cursorIn t Instance < countOf Instance) → Cursors t
+    by-kind h Model = h .0 .0
+    by-kind h SchemaInstance = h .0 .1
+    by-kind h Instance = h .1
+
 pub record SoundTable (t : List ℕ) : Type 0 where
   pub long : words ≤ length t
+  pub cursors : Cursors t
   pub models : (m : ℕ) → m < countOf Model → formed Model (labelAt t Model m) ≡ true
   pub model-names : Distinct t Model
   pub groups : (s : ℕ) → s < countOf SchemaInstance → SoundGroup t s
@@ -88,9 +104,11 @@ unfolding soundTable
 table-test t =
     let models = both _ _ (every (countOf Model) _ _ (λ m. itself (formed Model (labelAt t Model m)))) (distinct-test t Model) in
     let entries = both _ _ (both _ _ models (every (countOf SchemaInstance) _ _ (group-test t))) (distinct-test t SchemaInstance) in
-    restated (both _ _ (both _ _ (at-most words (length t)) entries) (every (countOf Instance) _ _ (instance-test t)))
-    (λ h. record { long = h .0 .0; models = h .0 .1 .0 .0 .0; model-names = h .0 .1 .0 .0 .1; groups = h .0 .1 .0 .1; group-names = h .0 .1 .1; instances = h .1 })
-    (λ h. ((h .long, (((h .models, h .model-names), h .groups), h .group-names)), h .instances))
+    restated (both _ _ (both _ _ (both _ _ (at-most words (length t)) (cursors-test t)) entries) (every (countOf Instance) _ _ (instance-test t)))
+    (λ h.
+    let e = h .0 .1 in
+    record { long = h .0 .0 .0; cursors = h .0 .0 .1; models = e .0 .0 .0; model-names = e .0 .0 .1; groups = e .0 .1; group-names = e .1; instances = h .1 })
+    (λ h. (((h .long, h .cursors), (((h .models, h .model-names), h .groups), h .group-names)), h .instances))
 
 pub record SoundTables (writing : Bool) (w k : List ℕ) : Type 0 where
   pub working : SoundTable w

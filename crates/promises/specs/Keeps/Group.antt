@@ -2,7 +2,7 @@
 use mathlib.Core.Path.{_≡_, refl, sym, _∙_}
 use mathlib.Core.Bool.{true, false, not, _||_, true≢false}
 use mathlib.Core.Logic.{_⊎_, inl, inr}
-use mathlib.Core.List.{List, [], _∷_}
+use mathlib.Core.List.{List}
 use Prim.Native.Nat.{ℕ, _≤_, _<_}
 use native.Mathlib.Omega.{arith}
 use lib.Dec.{eqb}
@@ -13,18 +13,18 @@ use Rattle.words.specs.declared.layout.Kind.the-variants.{Model, SchemaInstance
 use Rattle.words.specs.Layout.{countOf}
 use Rattle.words.specs.Sets.{bits, none, has, insert, remove}
 use Rattle.words.specs.Fields.{labelOf, nameIn, repositoryIn, repositories, isFree, isNamed}
-use Rattle.words.specs.Entries.{freeAt, isTaken, withEntry, withoutEntry}
+use Rattle.words.specs.Entries.{onePast, freeAt, isTaken, withWords, withEntry, withoutEntry}
 use Rattle.logic.specs.Laws.Bools.{and-left, and-right, or-right, clash, fails}
 use Rattle.logic.specs.Laws.Search.{none-at}
 use Rattle.words.specs.Laws.Sets.{has-insert, has-remove, has-none}
 use Rattle.words.specs.Laws.Fields.{Label, label-test, label-is-live, repository-of-label, schema-of-label}
-use Rattle.words.specs.Laws.Entries.{word-same, word-other, entry-first, entry-zeros}
+use Rattle.words.specs.Laws.Entries.{word-same, word-other, entry-first, entry-zeros, one-past-below}
 use Rattle.tables.specs.View.{isLive, labelAt, setAt, modelAt}
 use Rattle.tables.specs.Sound.{mayJoin}
 use Rattle.tables.specs.Edits.{withSet}
 use Rattle.promises.specs.Keeps.Facts.{SameName, SoundTable}
 use Rattle.promises.specs.Keeps.Frame.{same-or-not, live-not-free, distinct-kept, distinct-edited}
-use Rattle.promises.specs.Keeps.Edited.{Rest, word-rest, entry-rest, model-edited, other-group, group-same-model, group-edited}
+use Rattle.promises.specs.Keeps.Edited.{Rest, word-rest, entry-rest, cursor-moved, model-edited, other-group, group-same-model, group-edited}
 
 -- a label made of a repository, a schema and a name
 pub label-made : (r s n : ℕ) → r < repositories → 1 ≤ s → s ≤ 2 → n < 0x1_0000_0000 → Label (labelOf r s n)
@@ -48,29 +48,36 @@ module _ (t : List ℕ) (n w : ℕ) (h : SoundTable t) where
   pub made-model : n < countOf Model → freeAt t Model n ≡ true → Label w → isTaken t Model (repositoryIn w) (nameIn w) ≡ false
       → SoundTable (withEntry t Model n w)
   made-model l f label free =
-      model-edited t (withEntry t Model n w) n h (entry-rest t Model n _)
+      cursor-moved t′ Model (onePast Model n)
+      (model-edited t t′ n h (entry-rest t Model n _)
       (rw new (or-right (isFree w) _ (label-test w .passes label)))
       (λ j apart e. not-named t Model w free j (rw new at e))
       (λ s e live. clash _ f (live-not-free t Model n live))
-      (λ i e p live. clash _ f (live-not-free t Model n live))
+      (λ i e p live. clash _ f (live-not-free t Model n live)))
+      (one-past-below Model n)
     where
-      new : labelAt (withEntry t Model n w) Model n ≡ w
+      t′ : List ℕ
+      t′ = withWords t Model n w
+
+      new : labelAt t′ Model n ≡ w
       new = entry-first t Model n w l (h .long)
 
   -- a schema instance is made
   pub made-group : n < countOf SchemaInstance → Label w → isTaken t SchemaInstance (repositoryIn w) (nameIn w) ≡ false
       → SoundTable (withEntry t SchemaInstance n w)
   made-group l label free =
-      group-edited t t′ n h rest
+      cursor-moved t′ SchemaInstance (onePast SchemaInstance n)
+      (group-edited t t′ n h rest
       (record {
         empty = λ f. clash (isFree w) (rw new at f) (label-is-live w label);
         label = λ f. rw new label;
         members = λ f m b e. clash (has none m) (rw alone at e) (has-none m);
       })
-      (distinct-edited t t′ SchemaInstance n (λ i apart. other-group t t′ n h rest i 0 apart) (λ j apart e. not-named t SchemaInstance w free j (rw new at e)) (h .group-names))
+      (distinct-edited t t′ SchemaInstance n (λ i apart. other-group t t′ n h rest i 0 apart) (λ j apart e. not-named t SchemaInstance w free j (rw new at e)) (h .group-names)))
+      (one-past-below SchemaInstance n)
     where
       t′ : List ℕ
-      t′ = withEntry t SchemaInstance n w
+      t′ = withWords t SchemaInstance n w
 
       rest : Rest t t′ SchemaInstance n
       rest = entry-rest t SchemaInstance n _

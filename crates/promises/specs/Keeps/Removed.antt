@@ -115,6 +115,7 @@ module _ (goes : ℕ → Bool) (t t′ : List ℕ) (h : SoundTable t) (w : Sweep
   pub sweep-sound : SoundTable t′
   sweep-sound = record {
     long = omega (arith, w .long, h .long);
+    cursors = λ kind. rw (w .same-cursors kind) (h .cursors kind);
     models = λ m l. rw (swept-model m 0) (h .models m l);
     model-names = distinct-kept t t′ Model (λ i. swept-model i 0) (h .model-names);
     groups = λ s l. group-stays t t′ s (swept-group s) (λ m p live. swept-model m 0) (h .groups s l);

@@ -11,7 +11,7 @@ use Rattle.words.specs.declared.layout.Kind.{Kind}
 use Rattle.words.specs.declared.layout.Kind.the-variants.{Instance}
 use Rattle.words.specs.Layout.{words, strideOf, countOf}
 use Rattle.words.specs.Fields.{typeIn, values, flagged, withoutFlag}
-use Rattle.words.specs.Entries.{wordOf, withoutEntry}
+use Rattle.words.specs.Entries.{wordOf, cursorIn, withoutEntry}
 use Rattle.words.specs.Laws.Fields.{Alike, alike-without, flagged-without}
 use Rattle.words.specs.Laws.Entries.{entry-zeros}
 use Rattle.dictionary.specs.Dictionary.{isReference, attributeOf}
@@ -114,7 +114,7 @@ module _ (goes : ℕ → Bool) (i : ℕ) (here : i < countOf Instance) where
   pub detaches : (t : List ℕ) (n : ℕ) → n ≤ values → words ≤ length t → Detached t (detached t goes i n) n
   unfolding detached
   detaches t zero hn long = record {
-    rest = record { long = refl; others = λ kind j k apart. refl };
+    rest = record { long = refl; others = λ kind j k apart. refl; same-cursors = λ kind. refl };
     rid = record { alike = alike-same (headerAt t i); empty = λ e. e; later = λ k m l. record { flag = refl; value = refl }; earlier = λ k m l. absurd (omega arith) };
   }
   detaches t (suc n) hn long = detached-more t (detached t goes i n) n hn long (detaches t n (omega arith) long) (refers (detached t goes i n) goes i n) refl
@@ -127,6 +127,7 @@ pointwise p = λ i k. p k i
 pub record Sweep (goes : ℕ → Bool) (n : ℕ) (t t′ : List ℕ) : Type 0 where
   pub long : length t′ ≡ length t
   pub others : (kind : Kind) (i k : ℕ) → (Instance ≡ kind → i < n → ⊥) → wordOf t′ kind i k ≡ wordOf t kind i k
+  pub same-cursors : (kind : Kind) → cursorIn t′ kind ≡ cursorIn t kind
   pub gone : (j : ℕ) → j < n → goes j ≡ true → (k : ℕ) → k < strideOf Instance → wordOf t′ Instance j k ≡ 0
   pub stays : (j : ℕ) → j < n → goes j ≡ false → Rid goes values (wordOf t Instance j) (wordOf t′ Instance j)
 
@@ -143,6 +144,7 @@ module _ (goes : ℕ → Bool) (n : ℕ) (t t′ t″ : List ℕ) (w : Sweep goe
   sweep-more = record {
     long = r .long ∙ w .long;
     others = λ kind i k apart. r .others kind i k (λ e same. apart e (omega arith)) ∙ w .others kind i k (λ e l. apart e (omega arith));
+    same-cursors = λ kind. r .same-cursors kind ∙ w .same-cursors kind;
     gone = λ j l g. told-gone j l g (same-or-not j n);
     stays = λ j l g. told-stays j l g (same-or-not j n);
   }
@@ -169,5 +171,11 @@ one-swept goes n t t′ here long w false e =
 
 pub sweeps : (goes : ℕ → Bool) (t : List ℕ) (n : ℕ) → n ≤ countOf Instance → words ≤ length t → Sweep goes n t (swept t goes n)
 unfolding swept
-sweeps goes t zero hn long = record { long = refl; others = λ kind i k apart. refl; gone = λ j l. absurd (omega arith); stays = λ j l. absurd (omega arith) }
+sweeps goes t zero hn long = record {
+  long = refl;
+  others = λ kind i k apart. refl;
+  same-cursors = λ kind. refl;
+  gone = λ j l. absurd (omega arith);
+  stays = λ j l. absurd (omega arith);
+}
 sweeps goes t (suc n) hn long = one-swept goes n t (swept t goes n) hn long (sweeps goes t n (omega arith) long) (goes n) refl

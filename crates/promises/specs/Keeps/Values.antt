@@ -10,9 +10,9 @@ use Rattle.tables.specs.Laws.Sound.{SoundHeader, live-below}
 use Rattle.words.specs.declared.layout.Kind.the-variants.{Model, Instance}
 use Rattle.words.specs.Layout.{countOf}
 use Rattle.words.specs.Fields.{schemaIn, typeIn, modelIn, headerOf, values, flagged, withFlag, withoutFlag}
-use Rattle.words.specs.Entries.{wordOf, freeAt, withEntry}
+use Rattle.words.specs.Entries.{onePast, freeAt, withWords, withEntry}
 use Rattle.words.specs.Laws.Fields.{Header, header-is-live, type-of-header, model-of-header, no-flag, Alike, alike-with, alike-without, flagged-with, flagged-without}
-use Rattle.words.specs.Laws.Entries.{entry-first, entry-zeros}
+use Rattle.words.specs.Laws.Entries.{entry-first, entry-zeros, one-past-below}
 use Rattle.dictionary.specs.declared.answers.Attribute.{Attribute}
 use Rattle.dictionary.specs.declared.answers.Attribute.the-variants.{Lacking, Whole, Reference}
 use Rattle.dictionary.specs.Dictionary.{isType, schemaOf, attributeOf}
@@ -22,7 +22,7 @@ use Rattle.tables.specs.Edits.{withValue, withoutValue}
 use Rattle.logic.specs.Laws.Bools.{clash}
 use Rattle.promises.specs.Keeps.Facts.{SoundInstance, SoundTable}
 use Rattle.promises.specs.Keeps.Frame.{same-or-not, live-not-free, headed-stays, value-stays, Lasts}
-use Rattle.promises.specs.Keeps.Edited.{Rest, entry-rest, instance-same-model, all-last, instance-edited}
+use Rattle.promises.specs.Keeps.Edited.{Rest, entry-rest, cursor-moved, instance-same-model, all-last, instance-edited}
 use Rattle.promises.specs.Keeps.Written.{written, written-header, written-value, written-others, written-rest}
 
 -- an attribute that is not set is sound with a word that is 0
@@ -40,7 +40,7 @@ module _ (t : List ℕ) (n type model : ℕ) (h : SoundTable t) (l : n < countOf
   first = headerOf type model 0
 
   after : List ℕ
-  after = withEntry t Instance n first
+  after = withWords t Instance n first
 
   below : model < countOf Model
   below = live-below t Model model live
@@ -80,13 +80,15 @@ module _ (t : List ℕ) (n type model : ℕ) (h : SoundTable t) (l : n < countOf
   pub made-instance : SoundTable (withEntry t Instance n (headerOf type model 0))
   unfolding after first
   made-instance =
-      instance-edited t after n h rest
+      cursor-moved after Instance (onePast Instance n)
+      (instance-edited t after n h rest
       (record {
         empty = λ e k m. new-value k m;
         headed = λ e. rw new headed;
         valued = λ e k m. rw (new, new-value k m, no-flag type model k small (omega (arith, below)) m) (unset-sound after (attributeOf (typeIn first) k));
       })
-      (λ e. clash _ f (live-not-free t Instance n e))
+      (λ e. clash _ f (live-not-free t Instance n e)))
+      (one-past-below Instance n)
 
 -- ---- one attribute of an instance is changed
 

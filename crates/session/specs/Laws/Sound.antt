@@ -1,6 +1,6 @@
 -- The tests of a session: how the code's tests give the definition's.
 use mathlib.Core.Path.{_≡_, refl, sym, ap, _∙_}
-use mathlib.Core.Bool.{Bool, true, false, cond, not, _&&_, _||_, false≢true}
+use mathlib.Core.Bool.{Bool, true, false, not, _&&_, _||_, false≢true}
 use mathlib.Core.List.{List}
 use Prim.Native.Nat.{ℕ, _+_, _/_, _%_, _^_, _≤_, _<_}
 use native.Mathlib.Omega.{arith}
@@ -10,18 +10,18 @@ use lib.ListN.{length, getD}
 use borrow.Author.Tests.{eq-eqb, lt-ltb, le-ltb}
 use Rattle.words.specs.declared.layout.Kind.the-variants.{Model, SchemaInstance}
 use Rattle.words.specs.Layout.{words, countOf, placeOf}
-use Rattle.words.specs.Copies.{isLong, agree}
 use Rattle.logic.specs.Search.{allB}
 use Rattle.words.specs.Sets.{bits, none, has}
 use Rattle.words.specs.Fields.{isFree, repositoryIn}
 use Rattle.words.specs.Entries.{formed, allFormed}
 use Rattle.words.specs.Laws.Fields.{label-test}
-use Rattle.logic.specs.Laws.Bools.{and-left, and-right}
-use Rattle.logic.specs.Laws.Decides.{equal, at-most, denied, every, restated, same-test, itself}
+use Rattle.logic.specs.Laws.Bools.{and-left}
+use Rattle.logic.specs.Laws.Decides.{equal, denied, every, restated, same-test, itself}
 use Rattle.words.specs.Laws.Sets.{has-none, set-member, none-is-empty}
 use Rattle.words.specs.Laws.Entries.{entry-test}
 use Rattle.tables.specs.View.{labelAt}
-use Rattle.tables.specs.Sound.{distinct, soundGroup, soundEntries, soundInstances, soundTable, soundTables}
+use Rattle.tables.specs.Sound.{distinct, soundGroup, soundTables}
+use Rattle.tables.specs.Laws.Sound.{table-long, table-entries, sound-working}
 use Rattle.logic.specs.Laws.Search.{all-from, all-same, all-both}
 use Rattle.tables.specs.Laws.Live.{has-and, within-by-and}
 use Rattle.state.specs.declared.state.Event.{Event}
@@ -32,8 +32,7 @@ use Rattle.session.specs.Quick.Access.{isSeen, seenAt, inOpen}
 
 -- sound tables are long
 pub sound-long : (writing : Bool) (working kept : List ℕ) → soundTables writing working kept ≡ true → words ≤ length working
-unfolding soundTables soundTable
-sound-long writing working kept h = at-most words (length working) .holds (and-left _ _ (and-left _ _ (and-left _ _ (and-left _ _ h))))
+sound-long writing working kept h = table-long working (sound-working writing working kept h)
 
 -- ---- the log
 
@@ -99,12 +98,8 @@ no-access working s r w = all-from bits (maySee working s) (λ m l. rw (r, w, ha
 
 -- the labels of a sound table are sound
 pub sound-labels : (writing : Bool) (working kept : List ℕ) → soundTables writing working kept ≡ true → allFormed working Model ≡ true
-unfolding soundTables soundTable
 sound-labels writing working kept h =
-    let table : soundTable working ≡ true =
-    and-left (soundTable working) (soundTable kept) (and-left (soundTable working && soundTable kept) (writing || agree working kept) h) in
-    let entries : soundEntries working ≡ true =
-    and-right (isLong working) (soundEntries working) (and-left (isLong working && soundEntries working) (soundInstances working) table) in
+    let entries = table-entries working (sound-working writing working kept h) in
     let models = allFormed working Model && distinct working Model in
     let groups = allB (countOf SchemaInstance) (soundGroup working) in
     and-left (allFormed working Model) (distinct working Model)

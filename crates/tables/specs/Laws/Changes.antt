@@ -1,6 +1,6 @@
 -- What every change leaves alone.
 use mathlib.Core.Path.{_≡_, refl, _∙_}
-use mathlib.Core.Bool.{Bool, true, false, cond}
+use mathlib.Core.Bool.{Bool, true, false, cond, true≢false}
 use mathlib.Core.List.{List}
 use Prim.Native.Nat.{ℕ, zero, suc, _+_}
 use lib.ListN.{length, drop}
@@ -9,72 +9,102 @@ use Rattle.words.specs.declared.layout.Kind.the-variants.{Model, SchemaInstance
 use Rattle.words.specs.Layout.{words, countOf}
 use Rattle.words.specs.Sets.{insert, remove}
 use Rattle.words.specs.Fields.{values, withFlag, withoutFlag}
-use Rattle.words.specs.Entries.{withWord, withEntry}
-use Rattle.words.specs.Laws.Entries.{length-word, word-beyond, length-entry, entry-beyond}
+use Rattle.words.specs.Entries.{cursorIn, withWord, withWords}
+use Rattle.words.specs.Laws.Entries.{length-word, word-beyond, word-cursor, length-entry, entry-beyond, entry-cursor, length-made, made-beyond}
 use Rattle.tables.specs.declared.changes.Change.{Change}
 use Rattle.tables.specs.declared.changes.Change.the-variants.{Made, Gone, Joined, Left, Put, Unset}
 use Rattle.tables.specs.View.{setAt, headerAt}
 use Rattle.tables.specs.Deletions.{goesWith, refers, detached, swept, ungrouped, without}
 use Rattle.tables.specs.Changes.{apply}
 
--- words from 736 on are not written: the same length, and the same words beyond
+-- words from 739 on are not written: the same length, and the same words beyond
 pub record Kept (t u : List ℕ) : Type 0 where
   pub lengths : length u ≡ length t
   pub beyond : drop words u ≡ drop words t
 
-all-kept : (t : List ℕ) → Kept t t
-all-kept t = record { lengths = refl; beyond = refl }
+-- .. nor is a cursor
+record Still (t u : List ℕ) : Type 0 where
+  kept : Kept t u
+  cursors : (kind : Kind) → cursorIn u kind ≡ cursorIn t kind
 
-still : {t u : List ℕ} (v : List ℕ) → Kept t u → Kept u v → Kept t v
-still v p q = record { lengths = q .lengths ∙ p .lengths; beyond = q .beyond ∙ p .beyond }
+as-it-was : (t : List ℕ) → Still t t
+as-it-was t = record { kept = record { lengths = refl; beyond = refl }; cursors = λ kind. refl }
 
-either-kept : {t u v : List ℕ} (b : Bool) → Kept t u → Kept t v → Kept t (cond b u v)
-either-kept true p q = p
-either-kept false p q = q
+then : {t u : List ℕ} (v : List ℕ) → Still t u → Still u v → Still t v
+then v p q = record {
+  kept = record { lengths = q .kept .lengths ∙ p .kept .lengths; beyond = q .kept .beyond ∙ p .kept .beyond };
+  cursors = λ kind. q .cursors kind ∙ p .cursors kind;
+}
 
-word-kept : (t : List ℕ) (kind : Kind) (i k w : ℕ) → Kept t (withWord t kind i k w)
-word-kept t kind i k w = record { lengths = length-word t kind i k w; beyond = word-beyond t kind i k w }
+either : {t u v : List ℕ} (b : Bool) → Still t u → Still t v → Still t (cond b u v)
+either true p q = p
+either false p q = q
 
-entry-kept : (t : List ℕ) (kind : Kind) (i first : ℕ) → Kept t (withEntry t kind i first)
-entry-kept t kind i first = record { lengths = length-entry t kind i first; beyond = entry-beyond t kind i first }
+word-still : (t : List ℕ) (kind : Kind) (i k w : ℕ) → Still t (withWord t kind i k w)
+word-still t kind i k w = record { kept = record { lengths = length-word t kind i k w; beyond = word-beyond t kind i k w }; cursors = word-cursor t kind i k w }
 
-two-kept : (t : List ℕ) (i k v h : ℕ) → Kept t (withWord (withWord t Instance i (1 + k) v) Instance i 0 h)
-two-kept t i k v h = still (withWord (withWord t Instance i (1 + k) v) Instance i 0 h) (word-kept t Instance i (1 + k) v) (word-kept (withWord t Instance i (1 + k) v) Instance i 0 h)
+entry-still : (t : List ℕ) (kind : Kind) (i first : ℕ) → Still t (withWords t kind i first)
+entry-still t kind i first = record { kept = record { lengths = length-entry t kind i first; beyond = entry-beyond t kind i first }; cursors = entry-cursor t kind i first }
 
-detached-kept : (t : List ℕ) (gone : ℕ → Bool) (i n : ℕ) → Kept t (detached t gone i n)
+two-still : (t : List ℕ) (i k v h : ℕ) → Still t (withWord (withWord t Instance i (1 + k) v) Instance i 0 h)
+two-still t i k v h = then (withWord (withWord t Instance i (1 + k) v) Instance i 0 h) (word-still t Instance i (1 + k) v) (word-still (withWord t Instance i (1 + k) v) Instance i 0 h)
+
+detached-still : (t : List ℕ) (gone : ℕ → Bool) (i n : ℕ) → Still t (detached t gone i n)
 unfolding detached
-detached-kept t gone i zero = all-kept t
-detached-kept t gone i (suc n) =
+detached-still t gone i zero = as-it-was t
+detached-still t gone i (suc n) =
     let before = detached t gone i n in
-    still _ (detached-kept t gone i n) (either-kept (refers before gone i n) (two-kept before i n 0 (withoutFlag (headerAt before i) n)) (all-kept before))
+    then _ (detached-still t gone i n) (either (refers before gone i n) (two-still before i n 0 (withoutFlag (headerAt before i) n)) (as-it-was before))
 
-swept-kept : (t : List ℕ) (gone : ℕ → Bool) (n : ℕ) → Kept t (swept t gone n)
+swept-still : (t : List ℕ) (gone : ℕ → Bool) (n : ℕ) → Still t (swept t gone n)
 unfolding swept
-swept-kept t gone zero = all-kept t
-swept-kept t gone (suc n) =
+swept-still t gone zero = as-it-was t
+swept-still t gone (suc n) =
     let before = swept t gone n in
-    still _ (swept-kept t gone n) (either-kept (gone n) (entry-kept before Instance n 0) (detached-kept before gone n values))
+    then _ (swept-still t gone n) (either (gone n) (entry-still before Instance n 0) (detached-still before gone n values))
 
-ungrouped-kept : (t : List ℕ) (m n : ℕ) → Kept t (ungrouped t m n)
+ungrouped-still : (t : List ℕ) (m n : ℕ) → Still t (ungrouped t m n)
 unfolding ungrouped
-ungrouped-kept t m zero = all-kept t
-ungrouped-kept t m (suc n) =
+ungrouped-still t m zero = as-it-was t
+ungrouped-still t m (suc n) =
     let before = ungrouped t m n in
-    still _ (ungrouped-kept t m n) (word-kept before SchemaInstance n 1 (remove (setAt before n) m))
+    then _ (ungrouped-still t m n) (word-still before SchemaInstance n 1 (remove (setAt before n) m))
 
-without-kept : (t : List ℕ) (kind : Kind) (n : ℕ) → Kept t (without t kind n)
-without-kept t Model n =
+without-still : (t : List ℕ) (kind : Kind) (n : ℕ) → Still t (without t kind n)
+without-still t Model n =
     let emptied = swept t (goesWith t Model n) (countOf Instance) in
     let alone = ungrouped emptied n (countOf SchemaInstance) in
-    still _ (still _ (swept-kept t (goesWith t Model n) (countOf Instance)) (ungrouped-kept emptied n (countOf SchemaInstance))) (entry-kept alone Model n 0)
-without-kept t SchemaInstance n = entry-kept t SchemaInstance n 0
-without-kept t Instance n = swept-kept t (goesWith t Instance n) (countOf Instance)
+    then _ (then _ (swept-still t (goesWith t Model n) (countOf Instance)) (ungrouped-still emptied n (countOf SchemaInstance))) (entry-still alone Model n 0)
+without-still t SchemaInstance n = entry-still t SchemaInstance n 0
+without-still t Instance n = swept-still t (goesWith t Instance n) (countOf Instance)
+
+-- a creation, told from the other changes
+abbrev pub isMade : Change → Bool
+isMade (Made kind n first) = true
+isMade (Gone kind n) = false
+isMade (Joined s m) = false
+isMade (Left s m) = false
+isMade (Put i k v) = false
+isMade (Unset i k) = false
+
+change-still : (change : Change) (t : List ℕ) → isMade change ≡ false → Still t (apply change t)
+unfolding apply
+change-still (Made kind n first) t e = absurd (true≢false e)
+change-still (Gone kind n) t e = without-still t kind n
+change-still (Joined s m) t e = word-still t SchemaInstance s 1 (insert (setAt t s) m)
+change-still (Left s m) t e = word-still t SchemaInstance s 1 (remove (setAt t s) m)
+change-still (Put i k v) t e = two-still t i k v (withFlag (headerAt t i) k)
+change-still (Unset i k) t e = two-still t i k 0 (withoutFlag (headerAt t i) k)
 
 pub change-keeps : (change : Change) (t : List ℕ) → Kept t (apply change t)
 unfolding apply
-change-keeps (Made kind n first) t = entry-kept t kind n first
-change-keeps (Gone kind n) t = without-kept t kind n
-change-keeps (Joined s m) t = word-kept t SchemaInstance s 1 (insert (setAt t s) m)
-change-keeps (Left s m) t = word-kept t SchemaInstance s 1 (remove (setAt t s) m)
-change-keeps (Put i k v) t = two-kept t i k v (withFlag (headerAt t i) k)
-change-keeps (Unset i k) t = two-kept t i k 0 (withoutFlag (headerAt t i) k)
+change-keeps (Made kind n first) t = record { lengths = length-made t kind n first; beyond = made-beyond t kind n first }
+change-keeps (Gone kind n) t = change-still (Gone kind n) t refl .kept
+change-keeps (Joined s m) t = change-still (Joined s m) t refl .kept
+change-keeps (Left s m) t = change-still (Left s m) t refl .kept
+change-keeps (Put i k v) t = change-still (Put i k v) t refl .kept
+change-keeps (Unset i k) t = change-still (Unset i k) t refl .kept
+
+-- **A creation alone moves a cursor**; a deletion does not.
+pub cursors-stay : (change : Change) (t : List ℕ) → isMade change ≡ false → (kind : Kind) → cursorIn (apply change t) kind ≡ cursorIn t kind
+cursors-stay change t e = change-still change t e .cursors

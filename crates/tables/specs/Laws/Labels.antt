@@ -25,7 +25,7 @@ use Rattle.words.specs.Laws.Entries.{entry-test}
 use Rattle.tables.specs.declared.live.Live.{Live}
 use Rattle.tables.specs.declared.labels.Tested.the-variants.{Sound, Unsound}
 use Rattle.tables.specs.View.{labelAt, setAt}
-use Rattle.tables.specs.Sound.{distinct, mayJoin, soundGroup, soundEntries, soundInstances, soundTable}
+use Rattle.tables.specs.Sound.{distinct, mayJoin, soundGroup, soundCursors, soundEntries, soundInstances, soundTable}
 use Rattle.tables.specs.Quick.Names.{isNew, chains, chainOf}
 use Rattle.tables.specs.Quick.Live.{isOf, liveOf, liveBelow, liveIn, noLive, withLive}
 use Rattle.tables.specs.Quick.Labels.{labelled, soundLabels, tested, testedLabels, sameEntries, isBlank}
@@ -141,17 +141,21 @@ module _ (t : List ℕ) where
   unfolding soundTable
   short-unsound e = rw (e)
 
+  pub cursors-unsound : soundCursors t ≡ false → soundTable t ≡ false
+  unfolding soundTable
+  cursors-unsound e = rw (and-ended (isLong t) (soundCursors t) e)
+
   pub entries-unsound : soundEntries t ≡ false → soundTable t ≡ false
   unfolding soundTable
-  entries-unsound e = rw (and-ended (isLong t) (soundEntries t) e)
+  entries-unsound e = rw (and-ended (isLong t && soundCursors t) (soundEntries t) e)
 
   pub instances-unsound : soundInstances t ≡ false → soundTable t ≡ false
   unfolding soundTable
-  instances-unsound e = and-ended (isLong t && soundEntries t) (soundInstances t) e
+  instances-unsound e = and-ended (isLong t && soundCursors t && soundEntries t) (soundInstances t) e
 
-  pub sound-by-instances : words ≤ length t → soundEntries t ≡ true → soundInstances t ≡ soundTable t
+  pub sound-by-instances : words ≤ length t → soundCursors t ≡ true → soundEntries t ≡ true → soundInstances t ≡ soundTable t
   unfolding soundTable
-  sound-by-instances long e = rw (le-leb words (length t) long, e)
+  sound-by-instances long cursors e = rw (le-leb words (length t) long, cursors, e)
 
 -- ---- tables that are the same before the first instance
 

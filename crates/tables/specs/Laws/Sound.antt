@@ -1,8 +1,8 @@
 -- What the clauses of sound tables say, and that tables which agree in the words in use are alike sound.
 use mathlib.Core.Path.{_≡_, refl, _∙_}
-use mathlib.Core.Bool.{Bool, true, false, cond, not, _&&_, and-true, and-self, false≢true}
+use mathlib.Core.Bool.{Bool, true, false, cond, not, _&&_, _||_, and-true, and-self, false≢true}
 use mathlib.Core.List.{List}
-use Prim.Native.Nat.{ℕ, _+_, _<_}
+use Prim.Native.Nat.{ℕ, _+_, _≤_, _<_}
 use lib.ListN.{length, getD}
 use borrow.Author.Tests.{le-leb}
 use Rattle.words.specs.declared.layout.Kind.{Kind}
@@ -10,17 +10,17 @@ use Rattle.words.specs.declared.layout.Kind.the-variants.{Model, SchemaInstance
 use Rattle.words.specs.Layout.{words, countOf, placeOf}
 use Rattle.words.specs.Fields.{nameIn, repositoryIn, schemaIn, typeIn, modelIn, isFree}
 use Rattle.words.specs.Entries.{inEntry, wordOf}
-use Rattle.words.specs.Copies.{agree}
-use Rattle.logic.specs.Laws.Bools.{or-right}
-use Rattle.logic.specs.Laws.Decides.{Decides, both, equal, restated, itself}
+use Rattle.words.specs.Copies.{isLong, agree}
+use Rattle.logic.specs.Laws.Bools.{and-left, and-right, or-right}
+use Rattle.logic.specs.Laws.Decides.{Decides, both, equal, at-most, restated, itself}
 use Rattle.words.specs.Laws.Fields.{Header, header-test}
 use Rattle.words.specs.Laws.Entries.{entry-test}
-use Rattle.words.specs.Laws.Copies.{Agreeing, agree-test, agree-entries}
+use Rattle.words.specs.Laws.Copies.{Agreeing, agree-test, agree-entries, agree-cursors}
 use Rattle.dictionary.specs.declared.answers.Attribute.{Attribute}
 use Rattle.dictionary.specs.declared.answers.Attribute.the-variants.{Lacking, Whole, Reference}
 use Rattle.dictionary.specs.Dictionary.{isType, schemaOf}
 use Rattle.tables.specs.View.{isLive, labelAt}
-use Rattle.tables.specs.Sound.{sameName, distinct, soundGroup, soundValue, soundHeader, soundInstance, soundTable, soundTables}
+use Rattle.tables.specs.Sound.{sameName, distinct, soundGroup, soundValue, soundHeader, soundInstance, soundCursors, soundEntries, soundInstances, soundTable, soundTables}
 use Rattle.logic.specs.Laws.Search.{all-same}
 
 -- a number past the last entry is not live
@@ -30,6 +30,22 @@ live-below t kind i h = by-cases (inEntry kind i 0) refl h
     by-cases : (b : Bool) → inEntry kind i 0 ≡ b → not (isFree (cond b (getD t (placeOf kind i + 0) 0) 0)) ≡ true → i < countOf kind
     by-cases true e live = entry-test kind i 0 .holds e .0
     by-cases false e live = absurd (false≢true live)
+
+-- ---- what a sound table is by its first clauses
+
+module _ (t : List ℕ) (h : soundTable t ≡ true) where
+  pub table-long : words ≤ length t
+  unfolding soundTable
+  table-long = at-most words (length t) .holds (and-left _ _ (and-left _ _ (and-left _ _ h)))
+
+  pub table-entries : soundEntries t ≡ true
+  unfolding soundTable
+  table-entries = and-right (isLong t && soundCursors t) (soundEntries t) (and-left _ (soundInstances t) h)
+
+-- the working table of two that are sound
+pub sound-working : (writing : Bool) (working kept : List ℕ) → soundTables writing working kept ≡ true → soundTable working ≡ true
+unfolding soundTables
+sound-working writing working kept h = and-left _ (soundTable kept) (and-left _ (writing || agree working kept) h)
 
 -- ---- names
 
@@ -95,7 +111,7 @@ module _ (a b : List ℕ) (agreeing : Agreeing a b) where
             (λ s l. group-alike a b (same Model) (same SchemaInstance) s),
         all-same (countOf Instance) (soundInstance a) (soundInstance b) (λ i l. instance-alike i),
       ) (rw
-      (distinct-alike a b Model (same Model), distinct-alike a b SchemaInstance (same SchemaInstance)) (simp same)))
+      (distinct-alike a b Model (same Model), distinct-alike a b SchemaInstance (same SchemaInstance)) (simp (same, agree-cursors a b agreeing))))
 
 -- of tables that agree one tells of both; else both are looked at, and only while writing
 module _ (working kept : List ℕ) where

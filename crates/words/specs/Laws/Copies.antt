@@ -11,12 +11,13 @@ use borrow.Author.Tests.{lt-leb, le-leb}
 use lib.ListN.{length, getD, set, take, drop, length-append, length-take, length-drop, List·getD-append}
 use lib.Seq.{take-all, drop-length, take-suc, drop-cons, append-snoc, set-at, length-take-le, getD-take, drop-at}
 use Rattle.words.specs.declared.layout.Kind.{Kind}
-use Rattle.words.specs.Layout.{words}
-use Rattle.words.specs.Entries.{wordOf}
+use Rattle.words.specs.Layout.{words, cursorOf}
+use Rattle.words.specs.Entries.{wordOf, cursorIn}
 use Rattle.logic.specs.Search.{allB}
 use Rattle.words.specs.Copies.{sameAt, agree, inBoth, copied}
 use Rattle.logic.specs.Laws.Bools.{and-ended}
 use Rattle.logic.specs.Laws.Decides.{Decides, same-test, both, equal, at-most, every, restated}
+use Rattle.words.specs.Laws.Layout.{cursor-in-use}
 use Rattle.words.specs.Laws.Entries.{word-alike}
 
 -- one word more is copied
@@ -65,6 +66,10 @@ agree-test a b =
 -- tables that agree have the same entries
 pub agree-entries : (a b : List ℕ) → Agreeing a b → (kind : Kind) (i k : ℕ) → wordOf a kind i k ≡ wordOf b kind i k
 agree-entries a b h = word-alike a b (h .alike)
+
+-- .. and the same cursors
+pub agree-cursors : (a b : List ℕ) → Agreeing a b → (kind : Kind) → cursorIn a kind ≡ cursorIn b kind
+agree-cursors a b h kind = h .alike (cursorOf kind) (cursor-in-use kind)
 
 -- ---- copies
 

@@ -1,22 +1,22 @@
--- Entries: what is read after a write, what a write leaves alone, and what the searches find.
+-- Entries and cursors: what is read after a write, what a write leaves alone, and what the searches find.
 use mathlib.Core.Path.{_≡_, refl, sym, _∙_}
-use mathlib.Core.Logic.{_⊎_, inl, inr}
+use mathlib.Core.Logic.{_⊎_, inl, inr, ⊎-elim}
 use mathlib.Core.Bool.{Bool, true, false, cond}
 use mathlib.Core.List.{List}
-use Prim.Native.Nat.{ℕ, zero, suc, _+_, _-_, _≤_, _<_}
+use Prim.Native.Nat.{ℕ, zero, suc, _+_, _-_, _≤_, _<_, min}
 use native.Mathlib.Nat.{eq-or-lt-of-le, le-of-suc-le-suc, le-refl}
 use native.Mathlib.Decide.{decLt}
 use native.Mathlib.Omega.{arith}
-use lib.Dec.{eqb}
+use lib.Dec.{eqb, ltb}
 use lib.ListN.{length, getD, set, drop, length-set}
 use lib.Seq.{getD-set-same, getD-set-other, set-out, drop-set-lt}
-use borrow.Author.Tests.{eqb-true}
+use borrow.Author.Tests.{eqb-true, ltb-true, ltb-false, le-ltb}
 use Rattle.words.specs.declared.layout.Kind.{Kind}
-use Rattle.words.specs.Layout.{words, strideOf, countOf, placeOf}
-use Rattle.words.specs.Entries.{inEntry, wordOf, withWord, firstThenZeros, filled, withEntry, freeAt, firstFree, nextFree}
+use Rattle.words.specs.Layout.{words, strideOf, countOf, placeOf, cursorOf}
+use Rattle.words.specs.Entries.{inEntry, wordOf, withWord, cursorIn, withCursor, onePast, firstThenZeros, filled, withWords, withEntry, freeAt, firstFree, nextFree}
 use Rattle.logic.specs.Laws.Decides.{Decides, both, less}
 use Rattle.logic.specs.Laws.Search.{First, first, not-passed-over}
-use Rattle.words.specs.Laws.Layout.{stride-positive, in-use, Same, one-owner}
+use Rattle.words.specs.Laws.Layout.{stride-positive, count-positive, in-use, cursor-in-use, no-entry, one-cursor, Same, one-owner}
 
 module _ (kind : Kind) (i k : ℕ) where
   pub entry-test : Decides (inEntry kind i k) ((i < countOf kind) × (k < strideOf kind))
@@ -74,6 +74,16 @@ module _ (t : List ℕ) (kind : Kind) (i k w : ℕ) where
       by-cases false e = refl
       by-cases true e = drop-set-lt words t (placeOf kind i + k) w (entry-in-use kind i k e)
 
+  -- no cursor is written
+  pub word-cursor : (kind′ : Kind) → cursorIn (withWord t kind i k w) kind′ ≡ cursorIn t kind′
+  word-cursor kind′ = by-cases (inEntry kind i k) refl
+    where
+      by-cases : (b : Bool) → inEntry kind i k ≡ b → getD (cond b (set t (placeOf kind i + k) w) t) (cursorOf kind′) 0 ≡ getD t (cursorOf kind′) 0
+      by-cases false e = refl
+      by-cases true e =
+          let here = entry-test kind i k .holds e in
+          getD-set-other t (placeOf kind i + k) (cursorOf kind′) w 0 (λ same. no-entry kind kind′ i k (here .0) (here .1) (sym same))
+
 -- nothing is read behind them: tables that are alike below have the same entries
 pub word-alike : (a b : List ℕ) → ((j : ℕ) → j < words → getD a j 0 ≡ getD b j 0) → (kind : Kind) (i k : ℕ) → wordOf a kind i k ≡ wordOf b kind i k
 word-alike a b h kind i k = by-cases (inEntry kind i k) refl
@@ -81,6 +91,39 @@ word-alike a b h kind i k = by-cases (inEntry kind i k) refl
     by-cases : (c : Bool) → inEntry kind i k ≡ c → cond c (getD a (placeOf kind i + k) 0) 0 ≡ cond c (getD b (placeOf kind i + k) 0) 0
     by-cases false e = refl
     by-cases true e = h (placeOf kind i + k) (entry-in-use kind i k e)
+
+-- ---- a cursor written
+
+module _ (t : List ℕ) (kind : Kind) (n : ℕ) where
+  pub length-cursor : length (withCursor t kind n) ≡ length t
+  length-cursor = length-set t (cursorOf kind) n
+
+  pub cursor-beyond : drop words (withCursor t kind n) ≡ drop words t
+  cursor-beyond = drop-set-lt words t (cursorOf kind) n (cursor-in-use kind)
+
+  -- no entry is written
+  pub cursor-entries : (kind′ : Kind) (i k : ℕ) → wordOf (withCursor t kind n) kind′ i k ≡ wordOf t kind′ i k
+  cursor-entries kind′ i k = by-cases (inEntry kind′ i k) refl
+    where
+      by-cases : (b : Bool) → inEntry kind′ i k ≡ b → cond b (getD (set t (cursorOf kind) n) (placeOf kind′ i + k) 0) 0 ≡ cond b (getD t (placeOf kind′ i + k) 0) 0
+      by-cases false e = refl
+      by-cases true e =
+          let there = entry-test kind′ i k .holds e in
+          getD-set-other t (cursorOf kind) (placeOf kind′ i + k) n 0 (no-entry kind′ kind i k (there .0) (there .1))
+
+  pub cursor-same : words ≤ length t → cursorIn (withCursor t kind n) kind ≡ n
+  cursor-same long = getD-set-same t (cursorOf kind) n 0 (omega (arith, cursor-in-use kind))
+
+  pub cursor-other : (kind′ : Kind) → (kind ≡ kind′ → ⊥) → cursorIn (withCursor t kind n) kind′ ≡ cursorIn t kind′
+  cursor-other kind′ apart = getD-set-other t (cursorOf kind) (cursorOf kind′) n 0 (λ same. apart (one-cursor kind kind′ (sym same)))
+
+-- one past any number is one that can be tried
+pub one-past-below : (kind : Kind) (i : ℕ) → onePast kind i < countOf kind
+one-past-below kind i = by-cases (ltb (i + 1) (countOf kind)) refl
+  where
+    by-cases : (b : Bool) → ltb (i + 1) (countOf kind) ≡ b → cond b (i + 1) 0 < countOf kind
+    by-cases true e = ltb-true _ _ e
+    by-cases false e = count-positive kind
 
 -- ---- a whole entry written
 
@@ -113,25 +156,57 @@ module _ (t : List ℕ) (kind : Kind) (i first : ℕ) where
       by-cases (inl e) earlier = rw e (word-same before kind i n (firstThenZeros first n) hi (omega arith) (omega (arith, length-some n)))
       by-cases (inr m) earlier = word-other before kind i n (firstThenZeros first n) kind i k (λ s. omega arith) ∙ earlier m
 
-  -- made with this first word, or free again, which is the first word 0
-  pub length-entry : length (withEntry t kind i first) ≡ length t
+  cursor-some : (n : ℕ) (kind′ : Kind) → cursorIn (filled t kind i first n) kind′ ≡ cursorIn t kind′
+  unfolding filled
+  cursor-some zero kind′ = refl
+  cursor-some (suc n) kind′ = word-cursor (filled t kind i first n) kind i n (firstThenZeros first n) kind′ ∙ cursor-some n kind′
+
+  -- all its words, as it is made with this first one; free again, the first one is 0
+  pub length-entry : length (withWords t kind i first) ≡ length t
   length-entry = length-some (strideOf kind)
 
-  pub entry-beyond : drop words (withEntry t kind i first) ≡ drop words t
+  pub entry-beyond : drop words (withWords t kind i first) ≡ drop words t
   entry-beyond = beyond-some (strideOf kind)
 
-  pub entry-other : (kind′ : Kind) (i′ k′ : ℕ) → (kind ≡ kind′ → i ≡ i′ → ⊥) → wordOf (withEntry t kind i first) kind′ i′ k′ ≡ wordOf t kind′ i′ k′
+  pub entry-cursor : (kind′ : Kind) → cursorIn (withWords t kind i first) kind′ ≡ cursorIn t kind′
+  entry-cursor kind′ = cursor-some (strideOf kind) kind′
+
+  pub entry-other : (kind′ : Kind) (i′ k′ : ℕ) → (kind ≡ kind′ → i ≡ i′ → ⊥) → wordOf (withWords t kind i first) kind′ i′ k′ ≡ wordOf t kind′ i′ k′
   entry-other kind′ i′ k′ apart = other-some (strideOf kind) kind′ i′ k′ apart
 
-  pub entry-first : i < countOf kind → words ≤ length t → wordOf (withEntry t kind i first) kind i 0 ≡ first
+  pub entry-first : i < countOf kind → words ≤ length t → wordOf (withWords t kind i first) kind i 0 ≡ first
   entry-first hi long = same-some (strideOf kind) 0 (stride-positive kind) hi (le-refl (strideOf kind)) long
 
-  pub entry-zeros : (k : ℕ) → k < strideOf kind → i < countOf kind → words ≤ length t → (k ≡ 0 → first ≡ 0) → wordOf (withEntry t kind i first) kind i k ≡ 0
+  pub entry-zeros : (k : ℕ) → k < strideOf kind → i < countOf kind → words ≤ length t → (k ≡ 0 → first ≡ 0) → wordOf (withWords t kind i first) kind i k ≡ 0
   entry-zeros k l hi long h = same-some (strideOf kind) k l hi (le-refl (strideOf kind)) long ∙ by-cases (eqb k 0) refl
     where
       by-cases : (b : Bool) → eqb k 0 ≡ b → cond b first 0 ≡ 0
       by-cases true e = h (eqb-true k 0 e)
       by-cases false e = refl
+
+-- ---- an entry made: its words, and the cursor one past it
+
+module _ (t : List ℕ) (kind : Kind) (i first : ℕ) where
+  pub length-made : length (withEntry t kind i first) ≡ length t
+  length-made = length-cursor (withWords t kind i first) kind (onePast kind i) ∙ length-entry t kind i first
+
+  pub made-beyond : drop words (withEntry t kind i first) ≡ drop words t
+  made-beyond = cursor-beyond (withWords t kind i first) kind (onePast kind i) ∙ entry-beyond t kind i first
+
+  pub made-other : (kind′ : Kind) (i′ k′ : ℕ) → (kind ≡ kind′ → i ≡ i′ → ⊥) → wordOf (withEntry t kind i first) kind′ i′ k′ ≡ wordOf t kind′ i′ k′
+  made-other kind′ i′ k′ apart = cursor-entries (withWords t kind i first) kind (onePast kind i) kind′ i′ k′ ∙ entry-other t kind i first kind′ i′ k′ apart
+
+  pub made-first : i < countOf kind → words ≤ length t → wordOf (withEntry t kind i first) kind i 0 ≡ first
+  made-first hi long = cursor-entries (withWords t kind i first) kind (onePast kind i) kind i 0 ∙ entry-first t kind i first hi long
+
+  pub made-zeros : (k : ℕ) → 0 < k → k < strideOf kind → i < countOf kind → words ≤ length t → wordOf (withEntry t kind i first) kind i k ≡ 0
+  made-zeros k p l hi long = cursor-entries (withWords t kind i first) kind (onePast kind i) kind i k ∙ entry-zeros t kind i first k l hi long (λ z. absurd (omega arith))
+
+  pub made-cursor : words ≤ length t → cursorIn (withEntry t kind i first) kind ≡ onePast kind i
+  made-cursor long = cursor-same (withWords t kind i first) kind (onePast kind i) (omega (arith, length-entry t kind i first))
+
+  pub made-cursor-other : (kind′ : Kind) → (kind ≡ kind′ → ⊥) → cursorIn (withEntry t kind i first) kind′ ≡ cursorIn t kind′
+  made-cursor-other kind′ apart = cursor-other (withWords t kind i first) kind (onePast kind i) kind′ apart ∙ entry-cursor t kind i first kind′
 
 -- ---- what a search over entries finds
 
@@ -168,21 +243,66 @@ last-looked-at t kind from last e l p = omega (arith, free-not-missed t kind fro
 -- ---- the number that a creation takes: all that its callers know of it
 
 module _ (t : List ℕ) (kind : Kind) where
-  pub next-within : nextFree t kind ≤ countOf kind
+  -- it is found from the cursor on; or none is free there, and it is found from 0 on
+  next-by : (P : ℕ → Type 0)
+      → (firstFree t kind (cursorIn t kind) < countOf kind → P (firstFree t kind (cursorIn t kind)))
+      → (countOf kind ≤ firstFree t kind (cursorIn t kind) → P (firstFree t kind 0)) → P (nextFree t kind)
   unfolding nextFree
-  next-within = free-within t kind 0 (omega arith)
+  next-by P onward round = by-cases (ltb (firstFree t kind (cursorIn t kind)) (countOf kind)) refl
+    where
+      by-cases : (b : Bool) → ltb (firstFree t kind (cursorIn t kind)) (countOf kind) ≡ b → P (cond b (firstFree t kind (cursorIn t kind)) (firstFree t kind 0))
+      by-cases true e = onward (ltb-true _ _ e)
+      by-cases false e = round (ltb-false _ _ e)
+
+  -- a cursor past the last entry is as good as the count: nothing is found from either
+  pub next-from : (from : ℕ) → from ≡ min (cursorIn t kind) (countOf kind) → cond (ltb (firstFree t kind from) (countOf kind)) (firstFree t kind from) (firstFree t kind 0) ≡ nextFree t kind
+  unfolding nextFree
+  next-from from e = by-cases (decLt (cursorIn t kind) (countOf kind))
+    where
+      past : (n : ℕ) → countOf kind ≤ n → ltb (firstFree t kind n) (countOf kind) ≡ false
+      past n l = le-ltb (firstFree t kind n) (countOf kind) (omega (arith, first (freeAt t kind) (countOf kind - n) n .from))
+
+      by-cases : Dec (cursorIn t kind < countOf kind)
+          → cond (ltb (firstFree t kind from) (countOf kind)) (firstFree t kind from) (firstFree t kind 0)
+          ≡ cond (ltb (firstFree t kind (cursorIn t kind)) (countOf kind)) (firstFree t kind (cursorIn t kind)) (firstFree t kind 0)
+      by-cases (yes l) = let same : from ≡ cursorIn t kind = omega arith in rw same
+      by-cases (no l) = rw (past from (omega arith), past (cursorIn t kind) (omega arith))
+
+  cursor-before : cursorIn t kind ≤ firstFree t kind (cursorIn t kind)
+  cursor-before = first (freeAt t kind) (countOf kind - cursorIn t kind) (cursorIn t kind) .from
 
   -- below the count it is free
   pub next-is-free : nextFree t kind < countOf kind → freeAt t kind (nextFree t kind) ≡ true
-  unfolding nextFree
-  next-is-free h = free-found t kind 0 (omega arith) h
+  next-is-free =
+      next-by (λ n. n < countOf kind → freeAt t kind n ≡ true)
+      (λ l h. free-found t kind (cursorIn t kind) (omega (arith, cursor-before)) h)
+      (λ l h. free-found t kind 0 (omega arith) h)
 
   -- where one is free, the last one included, it is below the count
   pub next-found : (j : ℕ) → j < countOf kind → freeAt t kind j ≡ true → nextFree t kind < countOf kind
-  unfolding nextFree
-  next-found j l p = omega (arith, free-not-missed t kind 0 (omega arith) j (omega arith) l p)
+  next-found j l p = next-by (λ n. n < countOf kind) (λ m. m) (λ m. omega (arith, free-not-missed t kind 0 (omega arith) j (omega arith) l p))
 
   -- at the count none is free
   pub next-nowhere : countOf kind ≤ nextFree t kind → (j : ℕ) → j < countOf kind → freeAt t kind j ≡ false
-  unfolding nextFree
-  next-nowhere h j l = free-nowhere t kind 0 (omega arith) (omega (arith, free-within t kind 0 (omega arith))) j (omega arith) l
+  next-nowhere h j l =
+      next-by (λ n. countOf kind ≤ n → freeAt t kind j ≡ false)
+      (λ m p. absurd (omega arith))
+      (λ m p. free-nowhere t kind 0 (omega arith) (omega (arith, free-within t kind 0 (omega arith))) j (omega arith) l)
+      h
+
+  -- ahead of the cursor, none before it is free
+  pub next-ahead : (j : ℕ) → cursorIn t kind ≤ j → j < nextFree t kind → freeAt t kind j ≡ false
+  next-ahead j from =
+      next-by (λ n. j < n → freeAt t kind j ≡ false)
+      (λ l m. free-before t kind (cursorIn t kind) (omega (arith, cursor-before)) j from m)
+      (λ l m. free-before t kind 0 (omega arith) j (omega arith) m)
+
+  -- round to before the cursor, none from the cursor on is free, and none before it from 0 on
+  pub next-round : nextFree t kind < cursorIn t kind → (j : ℕ) → j < countOf kind → (cursorIn t kind ≤ j) ⊎ (j < nextFree t kind) → freeAt t kind j ≡ false
+  next-round behind j l =
+      next-by (λ n. n < cursorIn t kind → (cursorIn t kind ≤ j) ⊎ (j < n) → freeAt t kind j ≡ false)
+      (λ m p. absurd (omega (arith, cursor-before)))
+      (λ m p. ⊎-elim
+      (λ from. free-before t kind (cursorIn t kind) (omega arith) j from (omega arith))
+      (λ before. free-before t kind 0 (omega arith) j (omega arith) before))
+      behind

@@ -1,4 +1,4 @@
--- The layout: every entry lies in the words in use, and no two share a word.
+-- The layout: every entry and every cursor lies in the words in use, and no two share a word.
 use mathlib.Core.Path.{_≡_, refl, sym, ap, _∙_}
 use mathlib.Core.Bool.{Bool, true, false}
 use mathlib.Core.Logic.{_⊎_, inl, inr}
@@ -8,7 +8,7 @@ use lib.Dec.{eqb}
 use borrow.Author.Tests.{eqb-true, eqb-false}
 use Rattle.words.specs.declared.layout.Kind.{Kind}
 use Rattle.words.specs.declared.layout.Kind.the-variants.{Model, SchemaInstance, Instance}
-use Rattle.words.specs.Layout.{words, baseOf, strideOf, countOf, placeOf, indexOf}
+use Rattle.words.specs.Layout.{words, baseOf, strideOf, countOf, placeOf, cursorOf, indexOf}
 
 -- the place of any number, however large, is far from wrapping
 pub stride-small : (kind : Kind) (i : ℕ) → i < 0x1_0000_0000 → strideOf kind * i < 0x8_0000_0000
@@ -36,14 +36,36 @@ count-at-most Model = omega arith
 count-at-most SchemaInstance = omega arith
 count-at-most Instance = omega arith
 
--- an entry's words are words in use
+pub count-positive : (kind : Kind) → 0 < countOf kind
+count-positive Model = omega arith
+count-positive SchemaInstance = omega arith
+count-positive Instance = omega arith
+
+-- the entries stand before the cursors, and both in the words in use
+before-cursors : (kind : Kind) (i k : ℕ) → i < countOf kind → k < strideOf kind → placeOf kind i + k < cursorOf Model
+before-cursors Model i k hi hk = omega arith
+before-cursors SchemaInstance i k hi hk = omega arith
+before-cursors Instance i k hi hk = omega arith
+
+cursor-at : (kind : Kind) → cursorOf kind ≡ cursorOf Model + indexOf kind
+cursor-at Model = refl
+cursor-at SchemaInstance = refl
+cursor-at Instance = refl
+
+pub cursor-in-use : (kind : Kind) → cursorOf kind < words
+cursor-in-use Model = omega arith
+cursor-in-use SchemaInstance = omega arith
+cursor-in-use Instance = omega arith
+
 pub in-use : (kind : Kind) (i k : ℕ) → i < countOf kind → k < strideOf kind → placeOf kind i + k < words
-in-use Model i k hi hk = omega arith
-in-use SchemaInstance i k hi hk = omega arith
-in-use Instance i k hi hk = omega arith
+in-use kind i k hi hk = omega (arith, before-cursors kind i k hi hk)
+
+-- **A cursor is no entry's word.**
+pub no-entry : (kind kind′ : Kind) (i k : ℕ) → i < countOf kind → k < strideOf kind → placeOf kind i + k ≡ cursorOf kind′ → ⊥
+no-entry kind kind′ i k hi hk e = omega (arith, before-cursors kind i k hi hk, cursor-at kind′)
 
 -- the number that the manual has for it
-pub words-in-use : words ≡ 736
+pub words-in-use : words ≡ 739
 words-in-use = refl
 
 -- ---- kinds told apart
@@ -62,12 +84,19 @@ kind-at Instance = refl
 pub kinds-apart : {a b : Kind} → a ≡ b → eqb (indexOf a) (indexOf b) ≡ false → ⊥
 kinds-apart {a} {b} e p = eqb-false (indexOf a) (indexOf b) p (ap indexOf e)
 
+pub same-index : (a b : Kind) → indexOf a ≡ indexOf b → a ≡ b
+same-index a b e = sym (kind-at a) ∙ ap kindAt e ∙ kind-at b
+
 pub same-kind : (a b : Kind) → (a ≡ b) ⊎ (a ≡ b → ⊥)
 same-kind a b = by-cases (eqb (indexOf a) (indexOf b)) refl
   where
     by-cases : (c : Bool) → eqb (indexOf a) (indexOf b) ≡ c → (a ≡ b) ⊎ (a ≡ b → ⊥)
-    by-cases true e = inl (sym (kind-at a) ∙ ap kindAt (eqb-true (indexOf a) (indexOf b) e) ∙ kind-at b)
+    by-cases true e = inl (same-index a b (eqb-true (indexOf a) (indexOf b) e))
     by-cases false e = inr (λ p. kinds-apart p e)
+
+-- no two kinds share a cursor
+pub one-cursor : (kind kind′ : Kind) → cursorOf kind ≡ cursorOf kind′ → kind ≡ kind′
+one-cursor kind kind′ e = same-index kind kind′ (omega (arith, cursor-at kind, cursor-at kind′, e))
 
 -- ---- one owner for each word
 
