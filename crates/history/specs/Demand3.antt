@@ -12,7 +12,7 @@ use Rattle.words.specs.Fields.{nameIn, repositoryIn, schemaIn, typeIn, modelIn}
 use Rattle.words.specs.Entries.{wordOf, cursorIn, onePast}
 use Rattle.tables.specs.View.{isLive, setAt, isSet, valueAt}
 use Rattle.state.specs.Refusals.{done}
-use Rattle.session.specs.Operations.{operationOf}
+use Rattle.checks.specs.Operations.{operationOf}
 use Rattle.session.specs.Rows.{refusalOf}
 use Rattle.session.specs.Step.{Outcome}
 use Rattle.session.specs.Runs.{Call, Answered, Chip, outcomeOf}

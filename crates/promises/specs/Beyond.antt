@@ -19,9 +19,9 @@ use Rattle.state.specs.declared.state.Answer.{Answer}
 use Rattle.session.specs.declared.effects.Tables.{Tables}
 use Rattle.session.specs.declared.effects.Tables.the-variants.{Stay, Commit, Drop, Changed}
 use Rattle.state.specs.Refusals.{SY-ERR}
-use Rattle.session.specs.Operations.{operationOf}
+use Rattle.checks.specs.Operations.{operationOf}
 use Rattle.session.specs.Sound.{soundSession, sound}
-use Rattle.session.specs.Checks.{firstOf, gate}
+use Rattle.checks.specs.Checks.{firstOf, gate}
 use Rattle.session.specs.Effects.{workingAfter, keptAfter, unlessRefused}
 use Rattle.session.specs.Rows.{Row, effect, refusalOf, performed}
 use Rattle.session.specs.Step.{Outcome, answer, outcome, finished, core, step}

@@ -14,9 +14,9 @@ use Rattle.dictionary.specs.Dictionary.{the-table}
 use Rattle.dictionary.specs.Subtype.{subtype}
 use Rattle.tables.specs.View.{headerAt}
 use Rattle.tables.specs.Changes.{apply}
-use Rattle.session.specs.Operations.{listed, lookup, operationOf}
+use Rattle.checks.specs.Operations.{listed, lookup, operationOf}
 use Rattle.state.specs.States.{isOpen}
-use Rattle.session.specs.Checks.{firstOf}
+use Rattle.checks.specs.Checks.{firstOf}
 use Rattle.session.specs.Rows.{refusalOf}
 use Rattle.session.specs.Step.{core}
 use Rattle.session.specs.Runs.{call, Answered, Chip, Fresh, freshTable, freshChip, outcomeBy, answeredBy, outcomeOf, afterBy, historyBy, after}

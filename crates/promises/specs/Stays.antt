@@ -4,7 +4,7 @@ use mathlib.Core.Bool.{true}
 use mathlib.Core.List.{List}
 use Prim.Native.Nat.{ℕ, _<_}
 use Rattle.state.specs.declared.state.Session.{Session}
-use Rattle.session.specs.Operations.{operationOf}
+use Rattle.checks.specs.Operations.{operationOf}
 use Rattle.session.specs.Sound.{sound}
 use Rattle.session.specs.Step.{Outcome, step}
 use Rattle.logic.specs.Laws.Bools.{clash}

@@ -15,9 +15,9 @@ use Rattle.tables.specs.View.{setAt}
 use Rattle.tables.specs.Changes.{apply}
 use Rattle.state.specs.declared.state.Session.{Session}
 use Rattle.state.specs.Refusals.{done}
-use Rattle.session.specs.Operations.{listed, lookup, operationOf}
+use Rattle.checks.specs.Operations.{listed, lookup, operationOf}
 use Rattle.state.specs.States.{isOpen}
-use Rattle.session.specs.Checks.{firstOf}
+use Rattle.checks.specs.Checks.{firstOf}
 use Rattle.session.specs.Rows.{refusalOf}
 use Rattle.session.specs.Step.{Outcome, core}
 use Rattle.session.specs.Runs.{Call, call, Answered, Chip, freshTable, freshChip, Machine, outcomeBy, left, answeredBy, afterBy, historyBy, outcomeOf}

@@ -1,5 +1,4 @@
 -- What callers cite of the definitions.
-pub mod Operations
 pub mod Checks
 pub mod Sound
 pub mod Range

@@ -1,7 +1,5 @@
-pub mod Operations
 pub mod Sound
 pub mod Quick
-pub mod Checks
 pub mod Effects
 pub mod Rows
 pub mod Step

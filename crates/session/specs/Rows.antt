@@ -15,20 +15,20 @@ use Rattle.dictionary.specs.Subtype.{subtype}
 use Rattle.tables.specs.View.{labelAt, setAt, headerAt, typeAt, modelAt, isSet, valueAt}
 use Rattle.tables.specs.Deletions.{heldBack}
 use Rattle.tables.specs.declared.changes.Change.the-variants.{Gone, Joined, Left, Put, Unset}
-use Rattle.session.specs.declared.operations.Operation.{Operation}
-use Rattle.session.specs.declared.operations.Operation.the-variants as operation
-use Rattle.session.specs.declared.operations.InSession.{InSession}
-use Rattle.session.specs.declared.operations.InSession.the-variants as inSession
-use Rattle.session.specs.declared.operations.Reader.{Reader}
-use Rattle.session.specs.declared.operations.Reader.the-variants as reader
-use Rattle.session.specs.declared.operations.Writer.{Writer}
-use Rattle.session.specs.declared.operations.Writer.the-variants as writer
+use Rattle.checks.specs.declared.operations.Operation.{Operation}
+use Rattle.checks.specs.declared.operations.Operation.the-variants as operation
+use Rattle.checks.specs.declared.operations.InSession.{InSession}
+use Rattle.checks.specs.declared.operations.InSession.the-variants as inSession
+use Rattle.checks.specs.declared.operations.Reader.{Reader}
+use Rattle.checks.specs.declared.operations.Reader.the-variants as reader
+use Rattle.checks.specs.declared.operations.Writer.{Writer}
+use Rattle.checks.specs.declared.operations.Writer.the-variants as writer
 use Rattle.state.specs.declared.state.State.{State}
 use Rattle.session.specs.declared.effects.Tables.the-variants.{Stay, Commit, Drop, Changed}
 use Rattle.session.specs.declared.effects.Effect.{Effect}
-use Rattle.state.specs.Refusals.{TR-EAB, TR-EXS, TR-NEXS, TR-NAVL, TR-NRW, RP-NEXS, RP-OPN, RP-NOPN, MO-NEXS, MO-DUP, MO-NDEQ, MO-NVLD, MX-RO, MX-RW, MX-NDEF, MX-NRW, SD-NDEF, SI-NEXS, SI-DUP, ED-NDEF, ED-NDEQ, ED-NVLD, EI-NEXS, AT-NDEF, VA-NSET, VA-NVLD, VT-NVLD, _on_, REMAINING}
+use Rattle.state.specs.Refusals.{TR-EAB, TR-EXS, TR-NEXS, TR-NAVL, TR-NRW, RP-NEXS, RP-OPN, RP-NOPN, MO-NEXS, MO-DUP, MO-NDEQ, MO-NVLD, MX-RO, MX-RW, MX-NRW, SD-NDEF, SI-NEXS, SI-DUP, ED-NDEF, ED-NDEQ, ED-NVLD, EI-NEXS, AT-NDEF, VA-NSET, VA-NVLD, VT-NVLD, _on_, REMAINING}
 use Rattle.state.specs.States.{NONE, RO, RW, ABORTED, under, withRecording, withTransaction, withRepositories, withAccess, woken, ended, closedState, openedState}
-use Rattle.session.specs.Checks.{Check, _gives_, firstOf, noRepository, notOpened, away, missing, noWriting, noAccess, lacksAttribute, schemasDiffer, typeForeign, typesDiffer, wrongType, apart, gate}
+use Rattle.checks.specs.Checks.{Check, _gives_, firstOf, noRepository, notOpened, away, missing, lacksAttribute, schemasDiffer, typeForeign, typesDiffer, wrongType, apart, inReach, writable, accessed, gate}
 use Rattle.session.specs.Effects.{does, unlessRefused, ifWriting, number, created}
 
 -- the refusals of an operation, and its effect when done
@@ -39,19 +39,6 @@ pub record Row : Type 0 where
 infix 60 _then_
 abbrev pub _then_ : List Check → Effect → Row
 checks then effect = record { checks = checks; effect = effect }
-
--- the entry with this first word, which the argument at this place names, is there, or this refusal is given, and its
--- repository is open; and then the rest
-abbrev pub inReach : ℕ → ℕ → ℕ → State → List Check → List Check
-inReach label refusal place s rest = missing label gives refusal on place ∷ away s label gives RP-NOPN on place ∷ rest
-
--- the entry with this first word is there, or this refusal is given, and model m has read-write access; and then the rest
-abbrev pub writable : ℕ → ℕ → ℕ → State → List Check → List Check
-writable first refusal m s rest = missing first gives refusal on 1 ∷ noWriting s m gives MX-NRW on 1 ∷ rest
-
--- 24 and 25: model m with this label is there, and it has access; and then the rest
-abbrev pub accessed : ℕ → ℕ → State → List Check → List Check
-accessed label m s rest = missing label gives MO-NEXS on 1 ∷ noAccess s m gives MX-NDEF on 1 ∷ rest
 
 -- ---- those that ask for an open session
 

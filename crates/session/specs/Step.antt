@@ -8,7 +8,7 @@ use Rattle.state.specs.declared.state.State.{State}
 use Rattle.state.specs.declared.state.Session.{Session}
 use Rattle.state.specs.declared.state.Answer.{Answer}
 use Rattle.state.specs.Refusals.{SY-ERR, done, _on_, numberIn, placeIn}
-use Rattle.session.specs.Operations.{operationOf}
+use Rattle.checks.specs.Operations.{operationOf}
 use Rattle.state.specs.States.{isOpen, blankLog, session, noted}
 use Rattle.session.specs.Sound.{sound}
 use Rattle.session.specs.declared.effects.Effect.{Effect}

@@ -1,12 +1,8 @@
-// The session machine: every operation, its checks and its effects, and the one call.
+// The session machine: a row for each operation, its checks and its effect, and the one call.
 mod answers;
 pub mod call;
-mod checks;
-mod conditions;
 mod effects;
-mod gate;
 mod in_session;
-mod operations;
 mod perform;
 mod readers;
 mod sound;

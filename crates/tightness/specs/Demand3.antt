@@ -11,14 +11,14 @@ use Rattle.logic.specs.Laws.Bools.{decided, and-left, and-right}
 use Rattle.words.specs.declared.layout.Kind.{Kind}
 use Rattle.words.specs.declared.layout.Kind.the-variants.{Model}
 use Rattle.tables.specs.View.{isLive}
-use Rattle.session.specs.declared.operations.Operation.{Operation}
-use Rattle.session.specs.declared.operations.Operation.the-variants as operation
+use Rattle.checks.specs.declared.operations.Operation.{Operation}
+use Rattle.checks.specs.declared.operations.Operation.the-variants as operation
 use Rattle.state.specs.declared.state.State.{State}
 use Rattle.state.specs.declared.state.Session.{Session}
 use Rattle.state.specs.Refusals.{done, NO-ROOM}
-use Rattle.session.specs.Operations.{operationOf}
+use Rattle.checks.specs.Operations.{operationOf}
 use Rattle.state.specs.States.{isOpen}
-use Rattle.session.specs.Checks.{firstOf}
+use Rattle.checks.specs.Checks.{firstOf}
 use Rattle.session.specs.Effects.{workingAfter}
 use Rattle.session.specs.Rows.{refusalOf, effect}
 use Rattle.session.specs.Step.{Outcome}

@@ -79,6 +79,25 @@ use Rattle.state.proofs.state.woken.Reads as state-state-woken
 use Rattle.state.proofs.state.ended.Reads as state-state-ended
 use Rattle.state.proofs.state.closed_state.Reads as state-state-closed-state
 use Rattle.state.proofs.state.opened_state.Reads as state-state-opened-state
+use Rattle.checks.proofs.operations.operation_of.Reads as checks-operations-operation-of
+use Rattle.checks.proofs.conditions.no_repository.Reads as checks-conditions-no-repository
+use Rattle.checks.proofs.conditions.not_opened.Reads as checks-conditions-not-opened
+use Rattle.checks.proofs.conditions.away.Reads as checks-conditions-away
+use Rattle.checks.proofs.conditions.missing.Reads as checks-conditions-missing
+use Rattle.checks.proofs.conditions.no_writing.Reads as checks-conditions-no-writing
+use Rattle.checks.proofs.conditions.no_access.Reads as checks-conditions-no-access
+use Rattle.checks.proofs.conditions.lacks_attribute.Reads as checks-conditions-lacks-attribute
+use Rattle.checks.proofs.conditions.schemas_differ.Reads as checks-conditions-schemas-differ
+use Rattle.checks.proofs.conditions.type_foreign.Reads as checks-conditions-type-foreign
+use Rattle.checks.proofs.conditions.no_type.Reads as checks-conditions-no-type
+use Rattle.checks.proofs.conditions.types_differ.Reads as checks-conditions-types-differ
+use Rattle.checks.proofs.conditions.wrong_type.Reads as checks-conditions-wrong-type
+use Rattle.checks.proofs.conditions.apart.Reads as checks-conditions-apart
+use Rattle.checks.proofs.shared.first.Reads as checks-shared-first
+use Rattle.checks.proofs.shared.in_reach.Reads as checks-shared-in-reach
+use Rattle.checks.proofs.shared.writable.Reads as checks-shared-writable
+use Rattle.checks.proofs.shared.accessed.Reads as checks-shared-accessed
+use Rattle.checks.proofs.gate.gate.Reads as checks-gate-gate
 use Rattle.session.proofs.call.core.Reads as session-call-core
 use Rattle.session.proofs.call.call.Reads as session-call-call
 use Rattle.records.proofs.decoding.decode.Reads as records-decoding-decode
@@ -320,6 +339,65 @@ state-state-closed-state-one κs a x y s s′ p q = p ∙ sym q
 
 pub state-state-opened-state-one : (κs : _) (a : _) (x y : _) (s s′ : _) → state-state-opened-state.Post κs a x s → state-state-opened-state.Post κs a y s′ → x ≡ y
 state-state-opened-state-one κs a x y s s′ p q = p ∙ sym q
+
+-- ---- checks
+
+pub checks-operations-operation-of-one : (κs : _) (a : _) (x y : _) (s s′ : _) → checks-operations-operation-of.Post κs a x s → checks-operations-operation-of.Post κs a y s′ → x ≡ y
+checks-operations-operation-of-one κs a x y s s′ p q = p ∙ sym q
+
+pub checks-conditions-no-repository-one : (κs : _) (a : _) (x y : _) (s s′ : _) → checks-conditions-no-repository.Post κs a x s → checks-conditions-no-repository.Post κs a y s′ → x ≡ y
+checks-conditions-no-repository-one κs a x y s s′ p q = p ∙ sym q
+
+pub checks-conditions-not-opened-one : (κs : _) (a : _) (x y : _) (s s′ : _) → checks-conditions-not-opened.Post κs a x s → checks-conditions-not-opened.Post κs a y s′ → x ≡ y
+checks-conditions-not-opened-one κs a x y s s′ p q = p ∙ sym q
+
+pub checks-conditions-away-one : (κs : _) (a : _) (x y : _) (s s′ : _) → checks-conditions-away.Post κs a x s → checks-conditions-away.Post κs a y s′ → x ≡ y
+checks-conditions-away-one κs a x y s s′ p q = p ∙ sym q
+
+pub checks-conditions-missing-one : (κs : _) (a : _) (x y : _) (s s′ : _) → checks-conditions-missing.Post κs a x s → checks-conditions-missing.Post κs a y s′ → x ≡ y
+checks-conditions-missing-one κs a x y s s′ p q = p ∙ sym q
+
+pub checks-conditions-no-writing-one : (κs : _) (a : _) (x y : _) (s s′ : _) → checks-conditions-no-writing.Post κs a x s → checks-conditions-no-writing.Post κs a y s′ → x ≡ y
+checks-conditions-no-writing-one κs a x y s s′ p q = p ∙ sym q
+
+pub checks-conditions-no-access-one : (κs : _) (a : _) (x y : _) (s s′ : _) → checks-conditions-no-access.Post κs a x s → checks-conditions-no-access.Post κs a y s′ → x ≡ y
+checks-conditions-no-access-one κs a x y s s′ p q = p ∙ sym q
+
+pub checks-conditions-lacks-attribute-one : (κs : _) (a : _) (x y : _) (s s′ : _) → checks-conditions-lacks-attribute.Post κs a x s → checks-conditions-lacks-attribute.Post κs a y s′ → x ≡ y
+checks-conditions-lacks-attribute-one κs a x y s s′ p q = p ∙ sym q
+
+pub checks-conditions-schemas-differ-one : (κs : _) (a : _) (x y : _) (s s′ : _) → checks-conditions-schemas-differ.Post κs a x s → checks-conditions-schemas-differ.Post κs a y s′ → x ≡ y
+checks-conditions-schemas-differ-one κs a x y s s′ p q = p ∙ sym q
+
+pub checks-conditions-type-foreign-one : (κs : _) (a : _) (x y : _) (s s′ : _) → checks-conditions-type-foreign.Post κs a x s → checks-conditions-type-foreign.Post κs a y s′ → x ≡ y
+checks-conditions-type-foreign-one κs a x y s s′ p q = p ∙ sym q
+
+pub checks-conditions-no-type-one : (κs : _) (a : _) (x y : _) (s s′ : _) → checks-conditions-no-type.Post κs a x s → checks-conditions-no-type.Post κs a y s′ → x ≡ y
+checks-conditions-no-type-one κs a x y s s′ p q = p ∙ sym q
+
+pub checks-conditions-types-differ-one : (κs : _) (a : _) (x y : _) (s s′ : _) → checks-conditions-types-differ.Post κs a x s → checks-conditions-types-differ.Post κs a y s′ → x ≡ y
+checks-conditions-types-differ-one κs a x y s s′ p q = p ∙ sym q
+
+pub checks-conditions-wrong-type-one : (κs : _) (a : _) (x y : _) (s s′ : _) → checks-conditions-wrong-type.Post κs a x s → checks-conditions-wrong-type.Post κs a y s′ → x ≡ y
+checks-conditions-wrong-type-one κs a x y s s′ p q = p ∙ sym q
+
+pub checks-conditions-apart-one : (κs : _) (a : _) (x y : _) (s s′ : _) → checks-conditions-apart.Post κs a x s → checks-conditions-apart.Post κs a y s′ → x ≡ y
+checks-conditions-apart-one κs a x y s s′ p q = p ∙ sym q
+
+pub checks-shared-first-one : (κs : _) (a : _) (x y : _) (s s′ : _) → checks-shared-first.Post κs a x s → checks-shared-first.Post κs a y s′ → x ≡ y
+checks-shared-first-one κs a x y s s′ p q = p ∙ sym q
+
+pub checks-shared-in-reach-one : (κs : _) (a : _) (x y : _) (s s′ : _) → checks-shared-in-reach.Post κs a x s → checks-shared-in-reach.Post κs a y s′ → x ≡ y
+checks-shared-in-reach-one κs a x y s s′ p q = p ∙ sym q
+
+pub checks-shared-writable-one : (κs : _) (a : _) (x y : _) (s s′ : _) → checks-shared-writable.Post κs a x s → checks-shared-writable.Post κs a y s′ → x ≡ y
+checks-shared-writable-one κs a x y s s′ p q = p ∙ sym q
+
+pub checks-shared-accessed-one : (κs : _) (a : _) (x y : _) (s s′ : _) → checks-shared-accessed.Post κs a x s → checks-shared-accessed.Post κs a y s′ → x ≡ y
+checks-shared-accessed-one κs a x y s s′ p q = p ∙ sym q
+
+pub checks-gate-gate-one : (κs : _) (a : _) (x y : _) (s s′ : _) → checks-gate-gate.Post κs a x s → checks-gate-gate.Post κs a y s′ → x ≡ y
+checks-gate-gate-one κs a x y s s′ p q = p ∙ sym q
 
 -- ---- session
 

@@ -20,8 +20,8 @@ use Rattle.tables.specs.declared.changes.Change.{Change}
 use Rattle.tables.specs.Changes.{apply}
 use Rattle.session.specs.declared.effects.Tables.{Tables}
 use Rattle.state.specs.Refusals.{done}
-use Rattle.session.specs.Operations.{operationOf}
-use Rattle.session.specs.Checks.{Check, gate}
+use Rattle.checks.specs.Operations.{operationOf}
+use Rattle.checks.specs.Checks.{Check, gate}
 use Rattle.session.specs.Effects.{workingAfter, keptAfter}
 use Rattle.session.specs.Step.{Outcome}
 use Rattle.session.specs.Runs.{Call, Answered, Chip, Empty, Fresh, left, answeredBy, afterBy, historyBy, outcomeOf, after, history}

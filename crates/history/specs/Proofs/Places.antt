@@ -15,14 +15,14 @@ use Rattle.words.specs.declared.layout.Kind.the-variants.{Model, SchemaInstance
 use Rattle.words.specs.Layout.{countOf}
 use Rattle.words.specs.Entries.{wordOf, nextFree}
 use Rattle.tables.specs.View.{isLive}
-use Rattle.session.specs.declared.operations.Operation.{Operation}
-use Rattle.session.specs.declared.operations.Operation.the-variants as operation
+use Rattle.checks.specs.declared.operations.Operation.{Operation}
+use Rattle.checks.specs.declared.operations.Operation.the-variants as operation
 use Rattle.state.specs.declared.state.State.{State}
 use Rattle.session.specs.declared.effects.Effect.{Effect}
 use Rattle.state.specs.Refusals.{NO-ROOM, done, numberIn}
-use Rattle.session.specs.Operations.{operationOf}
+use Rattle.checks.specs.Operations.{operationOf}
 use Rattle.session.specs.Effects.{created}
-use Rattle.session.specs.Checks.{Check, firstOf}
+use Rattle.checks.specs.Checks.{Check, firstOf}
 use Rattle.session.specs.Rows.{refusalOf, effect}
 use Rattle.session.specs.Step.{Outcome, core}
 use Rattle.promises.specs.Core.{core-on-sound}

@@ -14,13 +14,13 @@ use Rattle.words.specs.Fields.{labelOf, headerOf, modelIn}
 use Rattle.dictionary.specs.Dictionary.{isReference, attributeOf}
 use Rattle.tables.specs.declared.changes.Change.{Change}
 use Rattle.tables.specs.declared.changes.Change.the-variants.{Made, Gone, Joined, Left, Put, Unset}
-use Rattle.session.specs.declared.operations.Operation.{Operation}
-use Rattle.session.specs.declared.operations.Operation.the-variants as operation
-use Rattle.session.specs.declared.operations.Writer.{Writer}
-use Rattle.session.specs.declared.operations.Writer.the-variants as writer
+use Rattle.checks.specs.declared.operations.Operation.{Operation}
+use Rattle.checks.specs.declared.operations.Operation.the-variants as operation
+use Rattle.checks.specs.declared.operations.Writer.{Writer}
+use Rattle.checks.specs.declared.operations.Writer.the-variants as writer
 use Rattle.state.specs.Refusals.{done}
-use Rattle.session.specs.Operations.{Numbered, listed, lookup, operationOf}
-use Rattle.session.specs.Laws.Operations.{the-list}
+use Rattle.checks.specs.Operations.{Numbered, listed, lookup, operationOf}
+use Rattle.checks.specs.Laws.Operations.{the-list}
 use Rattle.session.specs.Runs.{Call, Answered}
 use Rattle.history.specs.Remains.{is, of, ofBoth, gave, drops, commits}
 use Rattle.history.specs.Live.{ends, parts, isR, undoes}

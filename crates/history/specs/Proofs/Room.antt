@@ -13,12 +13,12 @@ use Rattle.words.specs.declared.layout.Kind.the-variants.{Model, SchemaInstance
 use Rattle.words.specs.Layout.{countOf}
 use Rattle.words.specs.Entries.{wordOf, freeAt, nextFree}
 use Rattle.words.specs.Laws.Entries.{next-is-free, next-found, next-nowhere}
-use Rattle.session.specs.declared.operations.Operation.the-variants as operation
+use Rattle.checks.specs.declared.operations.Operation.the-variants as operation
 use Rattle.state.specs.declared.state.State.{State}
 use Rattle.state.specs.declared.state.Session.{Session}
 use Rattle.session.specs.declared.effects.Effect.{Effect}
 use Rattle.state.specs.Refusals.{NO-ROOM, done, numberIn}
-use Rattle.session.specs.Operations.{operationOf}
+use Rattle.checks.specs.Operations.{operationOf}
 use Rattle.session.specs.Sound.{sound}
 use Rattle.session.specs.Effects.{created}
 use Rattle.session.specs.Rows.{refusalOf, effect}

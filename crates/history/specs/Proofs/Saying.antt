@@ -10,12 +10,12 @@ use Rattle.words.specs.Fields.{labelOf, headerOf, typeIn, modelIn}
 use Rattle.dictionary.specs.Dictionary.{isReference, attributeOf}
 use Rattle.tables.specs.declared.changes.Change.{Change}
 use Rattle.tables.specs.declared.changes.Change.the-variants.{Made, Gone, Joined, Left, Put, Unset}
-use Rattle.session.specs.declared.operations.Operation.{Operation}
-use Rattle.session.specs.declared.operations.Operation.the-variants as operation
-use Rattle.session.specs.declared.operations.InSession.{InSession}
-use Rattle.session.specs.declared.operations.InSession.the-variants as inSession
-use Rattle.session.specs.declared.operations.Writer.{Writer}
-use Rattle.session.specs.declared.operations.Writer.the-variants as writer
+use Rattle.checks.specs.declared.operations.Operation.{Operation}
+use Rattle.checks.specs.declared.operations.Operation.the-variants as operation
+use Rattle.checks.specs.declared.operations.InSession.{InSession}
+use Rattle.checks.specs.declared.operations.InSession.the-variants as inSession
+use Rattle.checks.specs.declared.operations.Writer.{Writer}
+use Rattle.checks.specs.declared.operations.Writer.the-variants as writer
 
 pub data Said : Type 0 where
   silent : Said

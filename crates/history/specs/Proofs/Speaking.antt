@@ -25,14 +25,14 @@ use Rattle.tables.specs.View.{labelAt, headerAt, typeAt, modelAt}
 use Rattle.tables.specs.declared.changes.Change.{Change}
 use Rattle.tables.specs.declared.changes.Change.the-variants.{Made, Put, Unset}
 use Rattle.tables.specs.Changes.{apply}
-use Rattle.session.specs.declared.operations.Operation.{Operation}
-use Rattle.session.specs.declared.operations.Operation.the-variants as operation
-use Rattle.session.specs.declared.operations.InSession.{InSession}
-use Rattle.session.specs.declared.operations.InSession.the-variants as inSession
-use Rattle.session.specs.declared.operations.Reader.{Reader}
-use Rattle.session.specs.declared.operations.Reader.the-variants as reader
-use Rattle.session.specs.declared.operations.Writer.{Writer}
-use Rattle.session.specs.declared.operations.Writer.the-variants as writer
+use Rattle.checks.specs.declared.operations.Operation.{Operation}
+use Rattle.checks.specs.declared.operations.Operation.the-variants as operation
+use Rattle.checks.specs.declared.operations.InSession.{InSession}
+use Rattle.checks.specs.declared.operations.InSession.the-variants as inSession
+use Rattle.checks.specs.declared.operations.Reader.{Reader}
+use Rattle.checks.specs.declared.operations.Reader.the-variants as reader
+use Rattle.checks.specs.declared.operations.Writer.{Writer}
+use Rattle.checks.specs.declared.operations.Writer.the-variants as writer
 use Rattle.state.specs.declared.state.State.{State}
 use Rattle.state.specs.declared.state.Session.{Session}
 use Rattle.session.specs.declared.effects.Effect.{Effect}
@@ -40,7 +40,7 @@ use Rattle.session.specs.declared.effects.Tables.{Tables}
 use Rattle.session.specs.declared.effects.Tables.the-variants.{Stay, Commit, Drop, Changed}
 use Rattle.state.specs.Refusals.{MO-NEXS, MO-DUP, SI-NEXS, SI-DUP, done}
 use Rattle.state.specs.States.{RW, under}
-use Rattle.session.specs.Checks.{gate}
+use Rattle.checks.specs.Checks.{gate}
 use Rattle.session.specs.Effects.{does, full, created, ifWriting}
 use Rattle.session.specs.Runs.{Call}
 use Rattle.session.specs.Rows.{sessionRow, readerRow, writerRow, checks, effect}

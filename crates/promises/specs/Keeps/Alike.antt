@@ -24,12 +24,12 @@ use Rattle.tables.specs.Deletions.{goesWith, refers, holdsBack, heldBack, detac
 use Rattle.tables.specs.declared.changes.Change.{Change}
 use Rattle.tables.specs.declared.changes.Change.the-variants.{Made, Gone, Joined, Left, Put, Unset}
 use Rattle.tables.specs.Changes.{apply}
-use Rattle.session.specs.declared.operations.Operation.{Operation}
-use Rattle.session.specs.declared.operations.Operation.the-variants as operation
-use Rattle.session.specs.declared.operations.Reader.{Reader}
-use Rattle.session.specs.declared.operations.Reader.the-variants as reader
-use Rattle.session.specs.declared.operations.Writer.{Writer}
-use Rattle.session.specs.declared.operations.Writer.the-variants as writer
+use Rattle.checks.specs.declared.operations.Operation.{Operation}
+use Rattle.checks.specs.declared.operations.Operation.the-variants as operation
+use Rattle.checks.specs.declared.operations.Reader.{Reader}
+use Rattle.checks.specs.declared.operations.Reader.the-variants as reader
+use Rattle.checks.specs.declared.operations.Writer.{Writer}
+use Rattle.checks.specs.declared.operations.Writer.the-variants as writer
 use Rattle.state.specs.declared.state.State.{State}
 use Rattle.session.specs.Sound.{soundAccess}
 use Rattle.session.specs.Rows.{referring, readerRow, writerRow, rowOf}

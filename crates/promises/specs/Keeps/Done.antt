@@ -12,18 +12,18 @@ use Rattle.words.specs.Sets.{insert, remove, sizeOf, has}
 use Rattle.words.specs.Fields.{repositoryIn, schemaIn}
 use Rattle.dictionary.specs.Dictionary.{attributeOf}
 use Rattle.tables.specs.View.{isLive, labelAt, headerAt, setAt, typeAt, modelAt}
-use Rattle.session.specs.declared.operations.Operation.{Operation}
-use Rattle.session.specs.declared.operations.Operation.the-variants as operation
-use Rattle.session.specs.declared.operations.InSession.{InSession}
-use Rattle.session.specs.declared.operations.InSession.the-variants as inSession
-use Rattle.session.specs.declared.operations.Reader.{Reader}
-use Rattle.session.specs.declared.operations.Reader.the-variants as reader
-use Rattle.session.specs.declared.operations.Writer.{Writer}
-use Rattle.session.specs.declared.operations.Writer.the-variants as writer
+use Rattle.checks.specs.declared.operations.Operation.{Operation}
+use Rattle.checks.specs.declared.operations.Operation.the-variants as operation
+use Rattle.checks.specs.declared.operations.InSession.{InSession}
+use Rattle.checks.specs.declared.operations.InSession.the-variants as inSession
+use Rattle.checks.specs.declared.operations.Reader.{Reader}
+use Rattle.checks.specs.declared.operations.Reader.the-variants as reader
+use Rattle.checks.specs.declared.operations.Writer.{Writer}
+use Rattle.checks.specs.declared.operations.Writer.the-variants as writer
 use Rattle.state.specs.declared.state.Session.{Session}
 use Rattle.state.specs.Refusals.{MO-NEXS, MO-DUP, SI-NEXS, SI-DUP, done}
 use Rattle.state.specs.States.{NONE, RO, RW, ABORTED, isOpen, under, woken}
-use Rattle.session.specs.Checks.{Check, gate}
+use Rattle.checks.specs.Checks.{Check, gate}
 use Rattle.session.specs.Rows.{reading, sessionRow, readerRow, writerRow, checks, effect}
 use Rattle.session.specs.Laws.Range.{Clear, clear-first, clear-rest}
 use Rattle.promises.specs.Keeps.Passed.{Transacted, Writing, is-transacted, is-writing, in-reach, is-writable, is-accessed, may-read, may-write, is-labelled, put-sound}

@@ -17,12 +17,12 @@ use Rattle.dictionary.specs.Dictionary.{attributeOf, lacks}
 use Rattle.dictionary.specs.Subtype.{subtype}
 use Rattle.tables.specs.View.{isLive, labelAt, typeAt}
 use Rattle.tables.specs.Sound.{soundValue}
-use Rattle.session.specs.declared.operations.Writer.{Writer}
-use Rattle.session.specs.declared.operations.Operation.the-variants as operation
+use Rattle.checks.specs.declared.operations.Writer.{Writer}
+use Rattle.checks.specs.declared.operations.Operation.the-variants as operation
 use Rattle.state.specs.declared.state.State.{State}
 use Rattle.state.specs.States.{NONE, RO, ABORTED, isOpen, under}
-use Rattle.session.specs.Checks.{Check, transacted, gate}
-use Rattle.session.specs.Rows.{inReach, writable, accessed, reading, writing, creating, referring}
+use Rattle.checks.specs.Checks.{Check, inReach, writable, accessed, transacted, gate}
+use Rattle.session.specs.Rows.{reading, writing, creating, referring}
 use Rattle.session.specs.Laws.Range.{Clear}
 
 -- ---- the gate

@@ -10,7 +10,7 @@ use borrow.Author.Tests.{eq-eqb, ne-eqb}
 use Rattle.state.specs.declared.state.Session.{Session}
 use Rattle.session.specs.declared.effects.Effect.{Effect}
 use Rattle.state.specs.Refusals.{SY-ERR, done}
-use Rattle.session.specs.Operations.{operationOf}
+use Rattle.checks.specs.Operations.{operationOf}
 use Rattle.state.specs.States.{session}
 use Rattle.session.specs.Sound.{sound}
 use Rattle.session.specs.Effects.{workingAfter, keptAfter}

@@ -20,19 +20,19 @@ use Rattle.dictionary.specs.declared.answers.Attribute.the-variants.{Lacking, W
 use Rattle.dictionary.specs.Dictionary.{attributeOf}
 use Rattle.tables.specs.View.{headerAt, typeAt, modelAt}
 use Rattle.tables.specs.declared.changes.Change.the-variants.{Made}
-use Rattle.session.specs.declared.operations.Operation.{Operation}
-use Rattle.session.specs.declared.operations.Operation.the-variants as operation
-use Rattle.session.specs.declared.operations.InSession.{InSession}
-use Rattle.session.specs.declared.operations.InSession.the-variants as inSession
-use Rattle.session.specs.declared.operations.Reader.{Reader}
-use Rattle.session.specs.declared.operations.Reader.the-variants as reader
-use Rattle.session.specs.declared.operations.Writer.{Writer}
-use Rattle.session.specs.declared.operations.Writer.the-variants as writer
+use Rattle.checks.specs.declared.operations.Operation.{Operation}
+use Rattle.checks.specs.declared.operations.Operation.the-variants as operation
+use Rattle.checks.specs.declared.operations.InSession.{InSession}
+use Rattle.checks.specs.declared.operations.InSession.the-variants as inSession
+use Rattle.checks.specs.declared.operations.Reader.{Reader}
+use Rattle.checks.specs.declared.operations.Reader.the-variants as reader
+use Rattle.checks.specs.declared.operations.Writer.{Writer}
+use Rattle.checks.specs.declared.operations.Writer.the-variants as writer
 use Rattle.state.specs.declared.state.State.{State}
 use Rattle.session.specs.declared.effects.Tables.the-variants.{Changed}
 use Rattle.session.specs.declared.effects.Effect.{Effect}
 use Rattle.state.specs.Refusals.{FN-NAVL, NO-ROOM, REMAINING, done, _on_, numberIn, placeIn, roomOf}
-use Rattle.session.specs.Checks.{Check, firstOf, gate}
+use Rattle.checks.specs.Checks.{Check, firstOf, gate}
 use Rattle.session.specs.Effects.{does, refuses, full, unlessRefused, created}
 use Rattle.session.specs.Rows.{Row, _then_, writing, referring, sessionRow, readerRow, writerRow, rowOf, checks, effect, refusalOf, performed}
 

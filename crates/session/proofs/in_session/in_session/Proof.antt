@@ -1,5 +1,5 @@
 -- Each operation by its own function.
-use Rattle.session.specs.Checks.{firstOf}
+use Rattle.checks.specs.Checks.{firstOf}
 use borrow.Author.Needs.{needs}
 use Rattle.session.proofs.in_session.in_session.Statement.{statement}
 use Rattle.session.proofs.in_session.in_session.Tie as tie

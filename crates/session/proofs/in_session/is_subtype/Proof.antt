@@ -1,5 +1,5 @@
 -- The row's checks and effect, each part by its function's contract.
-use Rattle.session.specs.Checks.{firstOf}
+use Rattle.checks.specs.Checks.{firstOf}
 use borrow.Author.Needs.{needs}
 use Rattle.session.proofs.in_session.is_subtype.Statement.{statement}
 use Rattle.session.proofs.in_session.is_subtype.Tie as tie

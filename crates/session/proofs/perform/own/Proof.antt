@@ -1,5 +1,5 @@
 -- Each family by its own function.
-use Rattle.session.specs.Checks.{firstOf}
+use Rattle.checks.specs.Checks.{firstOf}
 use borrow.Author.Needs.{needs}
 use Rattle.session.proofs.perform.own.Statement.{statement}
 use Rattle.session.proofs.perform.own.Tie as tie

@@ -1,5 +1,5 @@
 -- A reference has its own checks, any other attribute none.
-use Rattle.session.specs.Checks.{firstOf}
+use Rattle.checks.specs.Checks.{firstOf}
 use borrow.Author.Needs.{needs}
 use Rattle.session.proofs.writers.referring.Statement.{statement}
 use Rattle.session.proofs.writers.referring.Tie as tie

@@ -1,0 +1,3 @@
+-- What callers cite of the definitions.
+pub mod Operations
+pub mod Checks

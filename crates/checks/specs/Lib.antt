@@ -1,0 +1,4 @@
+pub mod Operations
+pub mod Checks
+pub mod Quick
+pub mod Laws
