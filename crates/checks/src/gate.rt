@@ -14,21 +14,21 @@ use state::state::State;
 use state::state::is_open;
 use state::state::under;
 
-// A session and a transaction are open, and then the rest.
+// A session and a transaction are open, and then the rest. With a return at each: nearly every call is asked this and passes,
+// and so it is quicker than by `first`.
 fn transacted(s: State, rest: u32) -> u32
     ensures { λ r. ⌜ r ≡ firstOf (transactedOf s (known rest)) ⌝ }
 {
-    first(
-        !is_open(s),
-        refusals::SS_NOPN,
-        0,
-        first(
-            under(s, ABORTED),
-            refusals::TR_EAB,
-            0,
-            first(under(s, NONE), refusals::TR_NAVL, 0, rest),
-        ),
-    )
+    if !is_open(s) {
+        return on(refusals::SS_NOPN, 0);
+    }
+    if under(s, ABORTED) {
+        return on(refusals::TR_EAB, 0);
+    }
+    if under(s, NONE) {
+        return on(refusals::TR_NAVL, 0);
+    }
+    rest
 }
 
 pub fn gate(op: Operation, s: State) -> u32
