@@ -10,7 +10,7 @@ help:
 	@echo 'make demo             the ten records of the manual, and the lines that the program prints for them'
 	@echo 'make edges            the cases at the edges, and what each gives'
 	@echo 'make test             layout of the files, everything proved from nothing, with the must-fail edits, then the tests outside the prover'
-	@echo 'make outside          the tests outside the prover alone (CALLS=n SEED=n VECTORS=folder)'
+	@echo 'make outside          the tests outside the prover alone (CALLS=n TRAYS=n SEED=n VECTORS='"'"'folder ..'"'"')'
 	@echo 'make mutants          shows that the outside tests see each of the bugs planted in their model'
 	@echo 'make check CRATE=x    one crate and what it stands on'
 	@echo 'make lib              target/chip: libchip.a and chip.h, for C or Rust on x86-64 to link; TARGET=aarch64 for that machine'

@@ -1,22 +1,27 @@
-/* The calls that are timed. rounds.c is compiled once for each side, which SIDE, CALL and CORE name. */
+/* What is timed. rounds.c is compiled once for each side, which SIDE, CALL, CORE and TRAY name. */
 #ifndef ROUNDS_H
 #define ROUNDS_H
 
 #include "../tests/compare/call.h"
 
+#define MOST_CALLS 1024
+
 typedef struct subject {
     chip chip;
-    uint32_t refusal, value, place; /* of the last answer */
+    chip_result answers[MOST_CALLS]; /* to each call of the last round */
+    chip_result own;                 /* of the last tray */
 } subject;
 
-/* With the soundness test or without it. */
-enum sort { CALLS, CORES };
-
 /* Makes the calls in turn, all of them `repeats` times. */
-typedef void rounds(subject *on, enum sort sort, const call *calls, int count, unsigned long repeats);
+typedef void rounds(subject *on, const call *calls, int count, unsigned long repeats);
 
-rounds library_rounds;
-rounds model_rounds;
-rounds clang_rounds;
+/* With the soundness test. */
+rounds library_calls, model_calls, clang_calls;
+
+/* Without it. */
+rounds library_cores, model_cores, clang_cores;
+
+/* All calls of a round as one tray. */
+rounds library_trays, model_trays, clang_trays;
 
 #endif

@@ -17,8 +17,8 @@ static void must(void *on, uint32_t op, uint32_t a, uint32_t b, uint32_t c)
 {
     call asked = {op, a, b, c};
     subject *made = on;
-    model_rounds(made, CALLS, &asked, 1, 1);
-    if (made->refusal != CHIP_DONE)
+    model_calls(made, &asked, 1, 1);
+    if (made->answers[0].refusal != CHIP_DONE)
         fail("a call that makes the full chip was refused");
 }
 
@@ -91,3 +91,20 @@ const task tasks[] = {
 };
 
 const size_t task_count = sizeof tasks / sizeof *tasks;
+
+/* Attribute 0 of every type is a number. */
+const task tray_tasks[] = {
+    {"get, in RO", full_in_ro, CHIP_DONE, 1, {{CHIP_GET, 0, 0, 0}}},
+    {"get, put of a number, test, in RW", full_in_rw, CHIP_DONE, 3,
+     {{CHIP_GET, 0, 0, 0}, {CHIP_PUT, 0, 0, 77}, {CHIP_TEST, 0, 0, 0}}},
+};
+
+const size_t tray_task_count = sizeof tray_tasks / sizeof *tray_tasks;
+
+void fill_tray(const task *t, call *orders, int count)
+{
+    for (int n = 0; n < count; n++) {
+        orders[n] = t->calls[n % t->count];
+        orders[n].a = (uint32_t)n % CHIP_INSTANCES;
+    }
+}

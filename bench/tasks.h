@@ -18,6 +18,11 @@ typedef struct task {
 extern const task tasks[];
 extern const size_t task_count;
 
+/* Their calls are made of one instance after the other, as many as a tray has. */
+extern const task tray_tasks[];
+extern const size_t tray_task_count;
+void fill_tray(const task *t, call *orders, int count);
+
 /* Says what went wrong and ends the program. */
 void fail(const char *what);
 

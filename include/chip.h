@@ -1,34 +1,40 @@
 /* The chip library: storage for a data chip bolted to an injection mould, after ISO 10303-22 as narrowed for this chip.
  * docs/CHIP.md is the manual: every word of a table, every operation with its refusals in order.
  *
- * The archive has one function, chip_call. It takes every operation number, all arguments, any bits in the session
- * and tables of any length and content, and always returns; nothing is the caller's duty to test. The functions at the end
- * of this file are inline: a chip in one struct, and names for numbers.
+ * The archive has two functions: chip_call is for one operation, chip_tray for a row of them. Both take every operation
+ * number, all arguments, any bits in the session and tables and rows of any length and content, and always return; nothing
+ * is the caller's duty to test. The functions at the end of this file are inline: a chip in one struct, and names for
+ * numbers.
  *
  * What the caller owes: `working` and `kept` point at `working_words` and `kept_words` words that may be read and written,
- * each at a multiple of 8 bytes, and the two do not overlap. A null pointer with length 0 is taken. Nothing else.
+ * each at a multiple of 8 bytes; for a tray, `orders` at `count` orders that may be read and `answers` at `places` results
+ * that may be read and written, each at a multiple of 4 bytes. No two of these overlap. A null pointer with length 0 is
+ * taken. Nothing else.
  *
  * A fresh chip is two tables of CHIP_WORDS zero words and a session of zero bytes. Between calls the caller keeps the
  * session that the last answer holds, after a read too, since that may have given access. The kept table is what a chip
  * holds that lost power: to go on from one, copy it to the working table and begin with a session of zero bytes
  * (chip_restart).
  *
- * Cost: no memory is asked for, no file is touched, nothing is kept between calls. A call takes less than 2 KB of stack on
- * x86-64, besides the session and the answer in the caller's frame, and its time has a bound: every loop is over the
- * entries of a table. docs/BENCH.md has the times.
+ * Cost: no memory is asked for, no file is touched, nothing is kept between calls. A call or a tray takes less than 2 KB of
+ * stack on x86-64, besides the session and the answer in the caller's frame. The time of a call has a bound: every loop is
+ * over the entries of a table. On a full chip most calls spend more than nine tenths of it on the test of soundness. A tray
+ * makes that test once, so its time is about that of one test and of its operations alone. docs/BENCH.md has the times.
  *
  * Threads: there is no global state, so calls on different chips may run at the same time, in an interrupt too. Two calls
- * on one chip may not: the later one needs the session of the earlier.
+ * on one chip may not: the later one needs the session of the earlier. A tray counts as a call in this; two that run at the
+ * same time may share their orders, not their answers.
  *
- * Power: what is proved is what a call leaves when it returns. CHIP_COMMIT and CHIP_END_COMMIT copy the words to the kept
- * table in no stated order, so power that goes in the middle may leave a kept table that is neither the old nor the new.
- * No other operation writes the kept table. A host that must survive this can hold two areas for kept tables and a mark
- * that names the whole one: after a commit has returned, copy the kept table to the other area, and change the mark last. A test at the
- * start, CHIP_OPEN_SESSION after chip_restart, tells most of the damage and not all: CHIP_SY_ERR says that the table is not
- * sound, but one that mixes words of two commits can be sound. What the memory itself does then is not proved here.
+ * Power: what is proved is what a call or a tray leaves when it returns. CHIP_COMMIT and CHIP_END_COMMIT copy the words to
+ * the kept table in no stated order, so power that goes in the middle may leave a kept table that is neither the old nor
+ * the new. No other operation writes the kept table. A host that must survive this can hold two areas for kept tables and a
+ * mark that names the whole one: after a commit, or a tray with one in it, has returned, copy the kept table to the other
+ * area, and change the mark last. A test at the start, CHIP_OPEN_SESSION after chip_restart, tells most of the damage and
+ * not all: CHIP_SY_ERR says that the table is not sound, but one that mixes words of two commits can be sound. What the
+ * memory itself does then is not proved here.
  *
- * Link with libchip.a, which needs nothing but memmove of the C library. The proof is about the code before it was compiled:
- * docs/PROMISES.md says what has to be believed besides. */
+ * Link with libchip.a, which needs nothing but memcpy and memmove of the C library. The proof is about the code before it
+ * was compiled: docs/PROMISES.md says what has to be believed besides. */
 #ifndef CHIP_H
 #define CHIP_H
 
@@ -36,9 +42,9 @@
 #include <stdint.h>
 
 /* The edition counts the change requests that are in; 0 is the base. The number is 10000 * major + 100 * minor + patch. */
-#define CHIP_EDITION 3
-#define CHIP_VERSION "0.4.0"
-#define CHIP_VERSION_NUMBER 400
+#define CHIP_EDITION 4
+#define CHIP_VERSION "0.5.0"
+#define CHIP_VERSION_NUMBER 500
 
 #ifdef __cplusplus
 extern "C" {
@@ -152,7 +158,7 @@ typedef struct chip_session {
     uint32_t transaction;           /* CHIP_NONE to CHIP_ABORTED */
 } chip_session;
 
-/* What a call answers. A refusal has value 0 and has changed no word of a table.
+/* What a call answers, and a tray. A refusal has value 0 and has changed no word of a table.
  *
  * Beside edition 1: `place` is new, here and in an event. It has taken bytes of the refusal, which had four: both have two
  * here and one in an event. Nothing else has moved, so the bytes of a sound session of edition 1 are a sound one here, with
@@ -207,7 +213,7 @@ enum chip_operation {
 /* ---- the refusals ---- */
 enum chip_refusal {
     CHIP_DONE = 0,
-    CHIP_SY_ERR = 1,   /* tables or session are not sound; the session comes back as given */
+    CHIP_SY_ERR = 1,   /* tables or session are not sound, or a tray lacks room; the session comes back as given */
     CHIP_FN_NAVL = 2,  /* no such operation */
     CHIP_SS_OPN = 3,   /* a session is open */
     CHIP_SS_NOPN = 4,  /* no session is open */
@@ -278,6 +284,59 @@ chip_answer chip_call(uint32_t op, uint32_t a, uint32_t b, uint32_t c, chip_sess
                       uint64_t *working, size_t working_words,
                       uint64_t *kept, size_t kept_words);
 
+/* ---- a whole tray at once ---- */
+
+/* One operation of a tray, with what chip_call takes for it. */
+typedef struct chip_order {
+    uint32_t op;
+    uint32_t a;
+    uint32_t b;
+    uint32_t c;
+} chip_order;
+
+/* What an answer begins with: all of it but the session. A tray's orders are answered so, and chip_do gives one.
+ *
+ * Beside edition 3: the three had four bytes each, in the order refusal, value, place. */
+typedef struct chip_result {
+    uint16_t refusal;
+    uint16_t place;
+    uint32_t value;
+} chip_result;
+
+CHIP_MUST_HOLD(order_is_16_bytes, sizeof(chip_order) == 16 && offsetof(chip_order, a) == 4 &&
+                                      offsetof(chip_order, b) == 8 && offsetof(chip_order, c) == 12);
+CHIP_MUST_HOLD(result_is_8_bytes, sizeof(chip_result) == 8 && offsetof(chip_result, place) == 2 &&
+                                      offsetof(chip_result, value) == 4);
+
+/* `count` operations, one after the other; `places` is how many results there is room for. answers[n] becomes what chip_call
+ * answers to orders[n] on the session and the tables that the orders before it left. Results from `count` on stay as they
+ * are.
+ *
+ * The tray's own answer is CHIP_DONE with value 0 and the session that the last order left, however the orders were answered
+ * and also if there are none. If `places` is below `count` it is CHIP_SY_ERR with value 0 and the session as given: no order
+ * is looked at, and neither tables nor results are written. Its place is 0 in both cases.
+ *
+ * A tray is no transaction. A refusal in it stops nothing: the next order comes all the same, a commit too. And no order can
+ * take the value of an earlier one, so what a creation gives is of use in the next tray.
+ *
+ * Tables and session are judged once, at the first order: what a call leaves of a sound state is sound, which is proved.
+ * If they are not sound, the tray is done, and each of its orders has CHIP_SY_ERR, value 0 and place 0.
+ *
+ * All of a plate, by chip_do_tray below; the answers have the room, so it is done, and each of them says how its order went:
+ *
+ *     chip_order orders[3] = {{CHIP_GET, plate, CHIP_PLATE_NUMBER, 0},
+ *                             {CHIP_GET, plate, CHIP_PLATE_MASS, 0},
+ *                             {CHIP_GET, plate, CHIP_PLATE_THICKNESS, 0}};
+ *     chip_result answers[3];
+ *     chip_do_tray(&on, orders, 3, answers, 3);
+ *     for (n = 0; n < 3; n++)
+ *         printf("%s, %u\n", chip_refusal_name(answers[n].refusal), (unsigned)answers[n].value);
+ */
+chip_answer chip_tray(const chip_order *orders, size_t count, chip_result *answers, size_t places,
+                      chip_session session,
+                      uint64_t *working, size_t working_words,
+                      uint64_t *kept, size_t kept_words);
+
 /* ---- a chip in one struct ---- */
 
 /* Some 12 KB: a session and its tables, which cannot overlap. */
@@ -286,13 +345,6 @@ typedef struct chip {
     uint64_t working[CHIP_WORDS];
     uint64_t kept[CHIP_WORDS];
 } chip;
-
-/* An answer whose session went where it belongs. */
-typedef struct chip_result {
-    uint32_t refusal;
-    uint32_t value;
-    uint32_t place;
-} chip_result;
 
 /* All zeros. */
 static inline void chip_fresh(chip *on)
@@ -314,16 +366,30 @@ static inline void chip_restart(chip *on)
         on->working[n] = on->kept[n];
 }
 
+/* Takes an answer apart: the session stays with the chip, and the rest is the result. */
+static inline chip_result chip_settle(chip *on, const chip_answer *answer)
+{
+    chip_result result;
+    on->session = answer->session;
+    result.refusal = answer->refusal;
+    result.place = answer->place;
+    result.value = answer->value;
+    return result;
+}
+
 /* chip_call on it. */
 static inline chip_result chip_do(chip *on, uint32_t op, uint32_t a, uint32_t b, uint32_t c)
 {
     chip_answer answer = chip_call(op, a, b, c, on->session, on->working, CHIP_WORDS, on->kept, CHIP_WORDS);
-    chip_result result;
-    on->session = answer.session;
-    result.refusal = answer.refusal;
-    result.value = answer.value;
-    result.place = answer.place;
-    return result;
+    return chip_settle(on, &answer);
+}
+
+/* chip_tray on it. */
+static inline chip_result chip_do_tray(chip *on, const chip_order *orders, size_t count, chip_result *answers, size_t places)
+{
+    chip_answer answer =
+        chip_tray(orders, count, answers, places, on->session, on->working, CHIP_WORDS, on->kept, CHIP_WORDS);
+    return chip_settle(on, &answer);
 }
 
 /* ---- names for numbers ---- */

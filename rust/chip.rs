@@ -8,7 +8,7 @@
 use core::fmt;
 
 /// The edition that this file is for; 0 is the base.
-pub const EDITION: u32 = 3;
+pub const EDITION: u32 = 4;
 /// Words of a table that are in use; a table with fewer is `SY_ERR`.
 pub const WORDS: usize = 739;
 /// The word of the models' cursor, the number that a creation tries first; include/chip.h says how it moves.
@@ -135,18 +135,77 @@ pub struct Session {
     pub transaction: u32,
 }
 
+/// One operation of a tray, with what `call` takes for it.
+#[repr(C)]
+#[derive(Clone, Copy, Debug, Default, PartialEq, Eq)]
+pub struct Order {
+    /// The operation's number.
+    pub op: u32,
+    /// The first argument.
+    pub a: u32,
+    /// The second.
+    pub b: u32,
+    /// The third.
+    pub c: u32,
+}
+
+impl Order {
+    /// Any number and any arguments.
+    pub fn new(op: impl Into<u32>, a: u32, b: u32, c: u32) -> Order {
+        let op = op.into();
+        Order { op, a, b, c }
+    }
+}
+
+/// All of an answer but the session, as it comes over the border: so the orders of a tray are answered.
+#[repr(C)]
+#[derive(Clone, Copy, Debug, Default, PartialEq, Eq)]
+pub struct Reply {
+    /// The refusal's number; 0 if it is done.
+    pub refusal: u16,
+    /// The place's number.
+    pub place: u16,
+    /// 0 unless it is done.
+    pub value: u32,
+}
+
+impl Reply {
+    /// The value if it is done.
+    pub fn result(self) -> Result<u32, Refused> {
+        match self.refusal {
+            0 => Ok(self.value),
+            refusal => Err(Refused {
+                refusal: Refusal::of(refusal.into()),
+                place: Place::of(self.place.into()),
+            }),
+        }
+    }
+}
+
 #[repr(C)]
 struct Answer {
-    refusal: u16,
-    place: u16,
-    value: u32,
+    reply: Reply,
     session: Session,
+}
+
+impl Answer {
+    /// Takes it apart: the session goes where the caller holds it.
+    fn settle(self, session: &mut Session) -> Result<u32, Refused> {
+        *session = self.session;
+        self.reply.result()
+    }
 }
 
 const _: () =
     assert!(core::mem::size_of::<Event>() == 8 && core::mem::offset_of!(Event, place) == 5);
 const _: () = assert!(
     core::mem::size_of::<Session>() == 176 && core::mem::offset_of!(Session, transaction) == 168
+);
+const _: () = assert!(core::mem::size_of::<Order>() == 16 && core::mem::offset_of!(Order, c) == 12);
+const _: () = assert!(
+    core::mem::size_of::<Reply>() == 8
+        && core::mem::offset_of!(Reply, place) == 2
+        && core::mem::offset_of!(Reply, value) == 4
 );
 const _: () =
     assert!(core::mem::size_of::<Answer>() == 184 && core::mem::offset_of!(Answer, session) == 8);
@@ -165,13 +224,25 @@ extern "C" {
         kept: *mut u64,
         kept_words: usize,
     ) -> Answer;
+
+    fn chip_tray(
+        orders: *const Order,
+        count: usize,
+        answers: *mut Reply,
+        places: usize,
+        session: Session,
+        working: *mut u64,
+        working_words: usize,
+        kept: *mut u64,
+        kept_words: usize,
+    ) -> Answer;
 }
 
 // ---- operations, refusals and places
 
 macro_rules! operations {
     ($($(#[$doc:meta])* $case:ident = $number:literal $name:literal,)*) => {
-        /// The operations that are listed. `ask` and `call` take any other number too.
+        /// The operations that are listed. `ask`, `call` and `Order` take any other number too.
         #[derive(Clone, Copy, Debug, PartialEq, Eq)]
         #[repr(u32)]
         pub enum Operation {
@@ -320,7 +391,7 @@ numbers! {
     /// Why a call was not done, by the standard's names and NO_ROOM. 0, which is done, is none of them.
     #[allow(non_camel_case_types)]
     Refusal, "unknown refusal",
-    /// Tables or session are not sound; the session comes back as given.
+    /// Tables or session are not sound, or a tray lacks room; the session comes back as given.
     SY_ERR = 1 "SY_ERR",
     /// No such operation.
     FN_NAVL = 2 "FN_NAVL",
@@ -463,14 +534,37 @@ pub fn call(
             kept.len(),
         )
     };
-    *session = answer.session;
-    match answer.refusal {
-        0 => Ok(answer.value),
-        refusal => Err(Refused {
-            refusal: Refusal::of(refusal.into()),
-            place: Place::of(answer.place.into()),
-        }),
-    }
+    answer.settle(session)
+}
+
+/// A whole tray at once: `answers[n]` becomes what `call` answers to `orders[n]` on what the orders before it left. Answers
+/// behind those of the orders stay as they are.
+///
+/// It is done however the orders were answered, on tables or a session that are not sound too: each of them is `SY_ERR` then.
+/// Only with fewer answers than orders it is `SY_ERR` itself, and nothing has changed. A refusal stops no order after it.
+pub fn tray(
+    orders: &[Order],
+    answers: &mut [Reply],
+    session: &mut Session,
+    working: &mut [u64],
+    kept: &mut [u64],
+) -> Result<(), Refused> {
+    // SAFETY: the orders may be read, the other three read and written, each for its length; all are aligned, and apart,
+    // since what is borrowed mutably is borrowed once.
+    let answer = unsafe {
+        chip_tray(
+            orders.as_ptr(),
+            orders.len(),
+            answers.as_mut_ptr(),
+            answers.len(),
+            *session,
+            working.as_mut_ptr(),
+            working.len(),
+            kept.as_mut_ptr(),
+            kept.len(),
+        )
+    };
+    answer.settle(session).map(|_| ())
 }
 
 /// A session and its two tables, some 12 KB.
@@ -522,6 +616,17 @@ impl Chip {
             a,
             b,
             c,
+            &mut self.session,
+            &mut self.working,
+            &mut self.kept,
+        )
+    }
+
+    /// `tray` on it.
+    pub fn ask_tray(&mut self, orders: &[Order], answers: &mut [Reply]) -> Result<(), Refused> {
+        tray(
+            orders,
+            answers,
             &mut self.session,
             &mut self.working,
             &mut self.kept,

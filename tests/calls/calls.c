@@ -1,5 +1,5 @@
-/* Single calls on any state, with all that must come back, from a file of vectors: calls FILE
- * Library and model are asked each; answer, session and every word of both tables are compared. */
+/* Calls and trays on any state, with all that must come back, from a file of vectors: calls FILE
+ * Library and model are asked each; answers, session and every word of both tables are compared. */
 #include "json.h"
 
 #include "../compare/call.h"
@@ -11,6 +11,10 @@
 #include <string.h>
 
 #define MOST_PRINTED 20
+
+/* Of a tray, and of its row for the answers. */
+#define MOST_ORDERS 5000
+#define MOST_PLACES 6000
 
 static const char *path;
 static unsigned long line;
@@ -34,9 +38,12 @@ typedef struct chip_state {
 } chip_state;
 
 typedef struct vector {
-    call asked;
+    int is_tray;
+    size_t count, places; /* of a tray's orders, and of its row for the answers */
+    call orders[MOST_ORDERS]; /* a call is the first */
     chip_state before, after;
-    uint32_t refusal, value, place;
+    chip_result answer;               /* to the call, or the tray's own */
+    chip_result answers[MOST_PLACES]; /* the row after the tray; what stays of it is as blank_row has it */
 } vector;
 
 static uint64_t number_of(const json *value)
@@ -58,28 +65,35 @@ static uint32_t narrow(uint64_t wide, uint32_t most)
     return (uint32_t)wide;
 }
 
+static const json *first_of(const json *array)
+{
+    if (!array || array->kind != JSON_ARRAY)
+        fail("a row is missing");
+    return array->first;
+}
+
 static uint32_t small_number(const json *object, const char *name)
 {
     return narrow(number(object, name), UINT32_MAX);
 }
 
-/* Puts the first three numbers of an array there; later editions have more. */
-static void read_three(const json *array, const char *missing, uint64_t to[3])
+/* Puts the first numbers of an array there; there may be more. */
+static void read_numbers(const json *array, int count, uint64_t *to)
 {
-    const json *part = array && array->kind == JSON_ARRAY ? array->first : NULL;
-    for (int n = 0; n < 3; n++, part = part->next) {
+    const json *part = first_of(array);
+    for (int n = 0; n < count; n++, part = part->next) {
         if (!part)
-            fail(missing);
+            fail("a row is too short");
         to[n] = number_of(part);
     }
 }
 
 static void read_events(const json *events, chip_event *to)
 {
-    const json *event = events && events->kind == JSON_ARRAY ? events->first : NULL;
+    const json *event = first_of(events);
     for (int e = 0; e < CHIP_EVENTS; e++, event = event->next) {
         uint64_t numbers[3];
-        read_three(event, "an event is missing", numbers);
+        read_numbers(event, 3, numbers);
         to[e].op = narrow(numbers[0], UINT32_MAX);
         to[e].refusal = (uint8_t)narrow(numbers[1], UINT8_MAX);
         to[e].place = (uint8_t)narrow(numbers[2], UINT8_MAX);
@@ -130,27 +144,92 @@ static void read_state(const json *from, chip_state *to)
     read_table(part_named(from, "kept"), &to->kept);
 }
 
+static chip_result read_answer(const json *from)
+{
+    uint64_t numbers[3];
+    read_numbers(from, 3, numbers);
+    return (chip_result){.refusal = (uint16_t)narrow(numbers[0], UINT16_MAX),
+                         .value = narrow(numbers[1], UINT32_MAX),
+                         .place = (uint16_t)narrow(numbers[2], UINT16_MAX)};
+}
+
+static void read_call(const json *question, vector *to)
+{
+    to->orders[0] = (call){small_number(question, "op"), small_number(question, "a"), small_number(question, "b"),
+                           small_number(question, "c")};
+}
+
+static void read_orders(const json *orders, vector *to)
+{
+    for (const json *order = first_of(orders); order; order = order->next) {
+        uint64_t numbers[4];
+        if (to->count == MOST_ORDERS)
+            fail("a tray is too long");
+        read_numbers(order, 4, numbers);
+        to->orders[to->count++] = (call){narrow(numbers[0], UINT32_MAX), narrow(numbers[1], UINT32_MAX),
+                                         narrow(numbers[2], UINT32_MAX), narrow(numbers[3], UINT32_MAX)};
+    }
+}
+
+static void read_answers(const json *answers, vector *to)
+{
+    const json *answer = first_of(answers);
+    blank_row(to->answers, to->places);
+    for (size_t n = 0; n < to->places; n++, answer = answer->next) {
+        if (!answer)
+            fail("an answer is missing");
+        if (answer->kind != JSON_NULL)
+            to->answers[n] = read_answer(answer);
+    }
+    if (answer)
+        fail("there is an answer too many");
+}
+
+static void read_tray(const json *question, const json *reply, vector *to)
+{
+    to->is_tray = 1;
+    to->places = number(question, "answers");
+    if (to->places > MOST_PLACES)
+        fail("a row for answers is too long");
+    read_orders(part_named(question, "ops"), to);
+    read_answers(part_named(reply, "answers"), to);
+}
+
 static void read_vector(const json *from, vector *to)
 {
     const json *question = part_named(from, "q"), *reply = part_named(from, "r");
-    uint64_t answer[3];
     memset(to, 0, sizeof *to);
-    to->asked.op = small_number(question, "op");
-    to->asked.a = small_number(question, "a");
-    to->asked.b = small_number(question, "b");
-    to->asked.c = small_number(question, "c");
+    if (part_named(question, "ops"))
+        read_tray(question, reply, to);
+    else
+        read_call(question, to);
     read_state(question, &to->before);
     read_state(reply, &to->after);
-    read_three(part_named(reply, "answer"), "an answer is missing", answer);
-    to->refusal = narrow(answer[0], UINT32_MAX);
-    to->value = narrow(answer[1], UINT32_MAX);
-    to->place = narrow(answer[2], UINT32_MAX);
+    to->answer = read_answer(part_named(reply, "answer"));
 }
 
 /* ---- asking ---- */
 
-/* Tables that end where memory must not be touched. */
+typedef struct answerer {
+    const char *name;
+    chip_function *call;
+    tray_function *tray;
+} answerer;
+
+static const answerer library = {"library", chip_call, chip_tray}, model = {"model", model_call, model_tray};
+
+/* Tables and rows that end where memory must not be touched. */
 static uint64_t *working_end, *kept_end;
+static chip_order *orders_end;
+static chip_result *answers_end;
+
+static void make_room(void)
+{
+    working_end = guarded_end(MOST_WORDS * sizeof *working_end);
+    kept_end = guarded_end(MOST_WORDS * sizeof *kept_end);
+    orders_end = guarded_end(MOST_ORDERS * sizeof *orders_end);
+    answers_end = guarded_end(MOST_PLACES * sizeof *answers_end);
+}
 
 static uint64_t *put_table(uint64_t *end, const table *from)
 {
@@ -162,25 +241,50 @@ static int same_table(const uint64_t *words, const table *expected)
     return memcmp(words, expected->words, expected->length * sizeof *words) == 0;
 }
 
+static chip_answer ask(const vector *v, const answerer *who)
+{
+    const chip_state *on = &v->before;
+    uint64_t *working = put_table(working_end, &on->working), *kept = put_table(kept_end, &on->kept);
+    chip_order *orders = memcpy(orders_end - v->count, v->orders, v->count * sizeof *orders);
+    const call *first = &v->orders[0];
+    blank_row(answers_end - v->places, v->places);
+    if (v->is_tray)
+        return who->tray(orders, v->count, answers_end - v->places, v->places, on->session, working, on->working.length,
+                         kept, on->kept.length);
+    return who->call(first->op, first->a, first->b, first->c, on->session, working, on->working.length, kept,
+                     on->kept.length);
+}
+
+static void print_question(const vector *v)
+{
+    const call *first = &v->orders[0];
+    if (v->is_tray)
+        printf("a tray of %zu in a row of %zu", v->count, v->places);
+    else
+        printf("op %u (%s), a %u, b %u, c %u", (unsigned)first->op, chip_operation_name(first->op), (unsigned)first->a,
+               (unsigned)first->b, (unsigned)first->c);
+}
+
 /* Whether it answers as the line has it. */
-static int is_answered(const vector *v, const char *who, chip_function *function)
+static int is_answered(const vector *v, const answerer *who)
 {
     static unsigned long printed;
-    uint64_t *working = put_table(working_end, &v->before.working);
-    uint64_t *kept = put_table(kept_end, &v->before.kept);
-    chip_answer answer = function(v->asked.op, v->asked.a, v->asked.b, v->asked.c, v->before.session, working,
-                                  v->before.working.length, kept, v->before.kept.length);
-    int numbers = answer.refusal == v->refusal && answer.value == v->value && answer.place == v->place;
+    chip_answer answer = ask(v, who);
+    int numbers = answer.refusal == v->answer.refusal && answer.value == v->answer.value && answer.place == v->answer.place;
+    int row = memcmp(answers_end - v->places, v->answers, v->places * sizeof *v->answers) == 0;
     int session = same_session(&answer.session, &v->after.session);
-    int tables = same_table(working, &v->after.working) && same_table(kept, &v->after.kept);
-    if (numbers && session && tables)
+    int tables = same_table(working_end - v->before.working.length, &v->after.working) &&
+                 same_table(kept_end - v->before.kept.length, &v->after.kept);
+    if (numbers && row && session && tables)
         return 1;
-    if (printed++ < MOST_PRINTED)
-        printf("line %lu, %s: op %u (%s), a %u, b %u, c %u: %s %u, place %u, expected %s %u, place %u%s%s\n", line, who,
-               (unsigned)v->asked.op, chip_operation_name(v->asked.op), (unsigned)v->asked.a, (unsigned)v->asked.b,
-               (unsigned)v->asked.c, chip_refusal_name(answer.refusal), (unsigned)answer.value, (unsigned)answer.place,
-               chip_refusal_name(v->refusal), (unsigned)v->value, (unsigned)v->place,
+    if (printed++ < MOST_PRINTED) {
+        printf("line %lu, %s: ", line, who->name);
+        print_question(v);
+        printf(": %s %u, place %u, expected %s %u, place %u%s%s%s\n", chip_refusal_name(answer.refusal),
+               (unsigned)answer.value, (unsigned)answer.place, chip_refusal_name(v->answer.refusal),
+               (unsigned)v->answer.value, (unsigned)v->answer.place, row ? "" : "; the row differs",
                session ? "" : "; the session differs", tables ? "" : "; words of the tables differ");
+    }
     return 0;
 }
 
@@ -216,8 +320,7 @@ int main(int count, char **words)
     }
     path = words[1];
     char *text = read_file(&length);
-    working_end = guarded_end();
-    kept_end = guarded_end();
+    make_room();
     for (const char *at = text, *end = text + length; at < end;) {
         const char *close = memchr(at, '\n', (size_t)(end - at));
         json *value = read_json(&at, close ? close : end);
@@ -225,7 +328,7 @@ int main(int count, char **words)
         if (!value || at != (close ? close : end))
             fail("is not JSON as expected");
         read_vector(value, &v);
-        differ += !(is_answered(&v, "library", chip_call) & is_answered(&v, "model", model_call));
+        differ += !(is_answered(&v, &library) & is_answered(&v, &model));
         free_json(value);
         at += close != NULL;
     }

@@ -52,6 +52,14 @@ static int read_text(const char **at, const char *end, const char **text, size_t
     return 1;
 }
 
+static json *read_null(const char **at, const char *end)
+{
+    for (const char *word = "null"; *word; word++, (*at)++)
+        if (*at == end || **at != *word)
+            return NULL;
+    return new_value(JSON_NULL);
+}
+
 static json *read_number(const char **at, const char *end)
 {
     uint64_t number = 0;
@@ -105,6 +113,8 @@ json *read_json(const char **at, const char *end)
         return read_parts(at, end, JSON_ARRAY, ']');
     if (*at < end && **at == '"')
         return read_text(at, end, &text, &length) ? new_value(JSON_TEXT) : NULL;
+    if (*at < end && **at == 'n')
+        return read_null(at, end);
     return read_number(at, end);
 }
 

@@ -1,11 +1,11 @@
-/* A reader of JSON as the vectors have it: objects, arrays, plain texts and whole numbers below 2^64. */
+/* A reader of JSON as the vectors have it: objects, arrays, plain texts, whole numbers below 2^64 and null. */
 #ifndef JSON_H
 #define JSON_H
 
 #include <stddef.h>
 #include <stdint.h>
 
-enum json_kind { JSON_NUMBER, JSON_TEXT, JSON_ARRAY, JSON_OBJECT };
+enum json_kind { JSON_NULL, JSON_NUMBER, JSON_TEXT, JSON_ARRAY, JSON_OBJECT };
 
 typedef struct json {
     enum json_kind kind;

@@ -15,3 +15,9 @@ int same_session(const chip_session *one, const chip_session *other)
            one->ro == other->ro && one->rw == other->rw && one->count == other->count &&
            same_events(one->events, other->events);
 }
+
+void blank_row(chip_result *row, size_t places)
+{
+    for (size_t n = 0; n < places; n++)
+        row[n] = (chip_result){(uint16_t)(0x8000 | n), (uint16_t)~n, (uint32_t)(n * 0x9e3779b1)};
+}

@@ -1,12 +1,10 @@
 /* Compares the library with the model, call by call: compare [calls] [seed]
  * compare places: prints which places each refusal of an operation has. */
 #include "arguments.h"
-#include "damage.h"
 #include "difference.h"
-#include "guarded.h"
+#include "kinds.h"
 #include "side.h"
 #include "sights.h"
-#include "spots.h"
 #include "triples.h"
 #include "walk.h"
 
@@ -25,20 +23,13 @@ typedef struct pair_of_sides {
     side library, model;
 } pair_of_sides;
 
-typedef struct kind_count {
-    const damage *kind;
-    enum expectation expected;
-    unsigned long done, unexpected;
-} kind_count;
-
 typedef struct run {
     unsigned long long seed, wanted, calls, damaged, unsound, walks;
     int differences, strange_answers;
     const char *damage; /* done to the state in hand; NULL if none */
     dice dice;
     pair_of_sides walking, probing;
-    kind_count kinds[128];
-    size_t kind_total;
+    kinds kinds;
 } run;
 
 /* ---- one call ---- */
@@ -53,6 +44,11 @@ static void count_difference(run *r)
 static int is_over(const run *r)
 {
     return r->calls >= r->wanted || r->differences >= MOST_DIFFERENCES;
+}
+
+static pair_of_sides new_pair(void)
+{
+    return (pair_of_sides){new_side("library", chip_call), new_side("model", model_call)};
 }
 
 /* Both sides go on with the state of the model. */
@@ -73,7 +69,8 @@ static chip_answer ask_both(run *r, pair_of_sides *sides, const call *asked)
     r->unsound += models.refusal == CHIP_SY_ERR;
     if (!agree(&sides->library, &its, &sides->model, &models)) {
         count_difference(r);
-        print_difference(asked, &sides->library, &its, &sides->model, &models);
+        print_call(asked);
+        print_difference(&sides->library, &its, &sides->model, &models);
         fflush(stdout);
         make_equal(sides);
     }
@@ -86,17 +83,6 @@ static chip_answer ask_both(run *r, pair_of_sides *sides, const call *asked)
 }
 
 /* ---- damaged states ---- */
-
-static void add_kinds(run *r, const damage *list, enum expectation expected)
-{
-    for (; list->name; list++)
-        r->kinds[r->kind_total++] = (kind_count){list, expected, 0, 0};
-}
-
-static int is_expected(enum expectation expected, const chip_answer *answer)
-{
-    return expected == EITHER || (answer->refusal == CHIP_SY_ERR) == (expected == REFUSED);
-}
 
 /* Calls on a damaged copy of where the walk is. */
 static void probe(run *r, walk *w, kind_count *count)
@@ -113,30 +99,17 @@ static void probe(run *r, walk *w, kind_count *count)
     for (int n = 0; n < CALLS_ON_DAMAGED && !is_over(r); n++) {
         call asked = walk_aside(w, &here->session, working_of(here));
         chip_answer answer = ask_both(r, &r->probing, &asked);
-        if (count->expected == REFUSED || n == 0)
-            count->unexpected += !is_expected(count->expected, &answer);
+        count_answer(count, answer.refusal);
     }
     r->damage = NULL;
 }
 
 /* ---- walks ---- */
 
-static size_t any_length(dice *d)
-{
-    return one_in(d, 4) ? CHIP_WORDS + below(d, 40) : CHIP_WORDS;
-}
-
-/* Fresh, at times but for the cursors, which stand anywhere. */
 static void start(run *r)
 {
-    static const state fresh;
-    state s = fresh;
-    s.working_words = any_length(&r->dice);
-    s.kept_words = any_length(&r->dice);
-    if (one_in(&r->dice, 2)) {
-        any_cursors(&r->dice, s.working);
-        memcpy(s.kept, s.working, sizeof s.kept);
-    }
+    state s;
+    start_fresh(&r->dice, &s);
     load(&r->walking.library, &s);
     load(&r->walking.model, &s);
 }
@@ -144,13 +117,10 @@ static void start(run *r)
 static void step(run *r, walk *w)
 {
     const side *here = &r->walking.model;
-    chip_session before = here->session;
-    uint64_t cursors[ENTRY_KINDS];
-    for (int k = 0; k < ENTRY_KINDS; k++)
-        cursors[k] = working_of(here)[entry_kinds[k].cursor];
-    call asked = walk_next(w, &before, working_of(here));
+    look(&here->session, working_of(here));
+    call asked = walk_next(w, &here->session, working_of(here));
     chip_answer answer = ask_both(r, &r->walking, &asked);
-    see(&asked, &before, cursors, &answer, working_of(here));
+    see(&asked, &answer, working_of(here));
 }
 
 static void take_walk(run *r)
@@ -162,40 +132,11 @@ static void take_walk(run *r)
     for (uint32_t left = 200 + below(&r->dice, 5000); left > 0 && !is_over(r); left--) {
         step(r, &w);
         if (one_in(&r->dice, 6) && !is_over(r))
-            probe(r, &w, &r->kinds[below(&r->dice, (uint32_t)r->kind_total)]);
+            probe(r, &w, any_kind(&r->dice, &r->kinds));
     }
 }
 
 /* ---- the run ---- */
-
-/* Returns how many kinds were never done. */
-static int print_kinds(const run *r, int names)
-{
-    int missing = 0;
-    for (size_t n = 0; n < r->kind_total; n++)
-        missing += r->kinds[n].done == 0;
-    printf("kinds of damage: %zu of %zu done\n", r->kind_total - (size_t)missing, r->kind_total);
-    for (size_t n = 0; names && n < r->kind_total; n++)
-        if (r->kinds[n].done == 0)
-            printf("  not done: %s\n", r->kinds[n].kind->name);
-    return missing;
-}
-
-/* Returns how many kinds had answers other than expected, from library and model alike. */
-static int print_unexpected(const run *r)
-{
-    int unexpected = 0;
-    for (size_t n = 0; n < r->kind_total; n++) {
-        const kind_count *count = &r->kinds[n];
-        if (count->unexpected == 0)
-            continue;
-        unexpected++;
-        printf("  %s, %lu times: %s\n", count->expected == REFUSED ? "not refused" : "refused", count->unexpected,
-               count->kind->name);
-    }
-    printf("kinds of damage not answered as expected: %d\n", unexpected);
-    return unexpected;
-}
 
 static int report(const run *r)
 {
@@ -205,8 +146,8 @@ static int report(const run *r)
     int whole = r->calls >= WHOLE_RUN;
     int missing = print_triples(whole);
     missing += print_sights(whole);
-    missing += print_kinds(r, whole);
-    int unexpected = print_unexpected(r);
+    missing += print_kinds(&r->kinds, whole);
+    int unexpected = print_unexpected(&r->kinds);
     printf("compare: %d differences\n", r->differences);
     if (r->differences || r->strange_answers || unexpected)
         return EXIT_FAILURE;
@@ -227,12 +168,9 @@ int main(int count, char **arguments)
     r.wanted = count > 1 ? number_argument("compare", "calls", arguments[1]) : WHOLE_RUN;
     r.seed = count > 2 ? number_argument("compare", "seed", arguments[2]) : 1;
     r.dice.state = r.seed;
-    r.walking = (pair_of_sides){new_side(chip_call), new_side(model_call)};
-    r.probing = (pair_of_sides){new_side(chip_call), new_side(model_call)};
-    add_kinds(&r, table_damages, REFUSED);
-    add_kinds(&r, session_damages, REFUSED);
-    add_kinds(&r, harmless_changes, TAKEN);
-    add_kinds(&r, noises, EITHER);
+    r.walking = new_pair();
+    r.probing = new_pair();
+    r.kinds = all_kinds();
     while (!is_over(&r))
         take_walk(&r);
     return report(&r);

@@ -17,6 +17,22 @@ int do_damage(const damage *kind, dice *d, state *s)
     return 1;
 }
 
+static size_t any_length(dice *d)
+{
+    return one_in(d, 4) ? CHIP_WORDS + below(d, 40) : CHIP_WORDS;
+}
+
+void start_fresh(dice *d, state *s)
+{
+    memset(s, 0, sizeof *s);
+    s->working_words = any_length(d);
+    s->kept_words = any_length(d);
+    if (one_in(d, 2)) {
+        any_cursors(d, s->working);
+        memcpy(s->kept, s->working, sizeof s->kept);
+    }
+}
+
 void open_up(state *s)
 {
     s->session.opened = 1;

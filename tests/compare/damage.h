@@ -25,6 +25,9 @@ extern const damage noises[];
 /* To a table: in a read-write transaction one of the two, else both alike. */
 int do_damage(const damage *kind, dice *d, state *s);
 
+/* Where a walk begins: fresh, at times but for the cursors, which stand anywhere, and at times with longer tables. */
+void start_fresh(dice *d, state *s);
+
 /* Steps to another sound state. */
 void open_up(state *s);
 void close_up(state *s);

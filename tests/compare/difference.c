@@ -10,47 +10,58 @@ static int same_words(const uint64_t *one, const uint64_t *other, size_t words)
     return memcmp(one, other, words * sizeof *one) == 0;
 }
 
-int agree(const side *library, const chip_answer *its, const side *model, const chip_answer *models)
+int agree(const side *one, const chip_answer *its, const side *other, const chip_answer *others)
 {
-    return its->refusal == models->refusal && its->value == models->value && its->place == models->place &&
-           same_session(&its->session, &models->session) &&
-           same_words(working_of(library), working_of(model), model->working_words) &&
-           same_words(kept_of(library), kept_of(model), model->kept_words) && tails_untouched(library) &&
-           tails_untouched(model);
+    return its->refusal == others->refusal && its->value == others->value && its->place == others->place &&
+           same_session(&its->session, &others->session) &&
+           same_words(working_of(one), working_of(other), other->working_words) &&
+           same_words(kept_of(one), kept_of(other), other->kept_words) && tails_untouched(one) &&
+           tails_untouched(other);
 }
 
-static void print_field(const char *field, uint64_t its, uint64_t models)
+void print_call(const call *asked)
 {
-    if (its != models)
-        printf("  %s: library %llu (0x%llx), model %llu (0x%llx)\n", field, (unsigned long long)its,
-               (unsigned long long)its, (unsigned long long)models, (unsigned long long)models);
+    printf("  op %u (%s), a %u, b %u, c %u\n", (unsigned)asked->op, chip_operation_name(asked->op), (unsigned)asked->a,
+           (unsigned)asked->b, (unsigned)asked->c);
 }
 
-static void print_sessions(const chip_session *its, const chip_session *models)
+/* The names of those who differ. */
+typedef struct pair {
+    const char *one, *other;
+} pair;
+
+static void print_field(pair names, const char *field, uint64_t its, uint64_t others)
 {
-    print_field("session opened", its->opened, models->opened);
-    print_field("session recording", its->recording, models->recording);
-    print_field("session transaction", its->transaction, models->transaction);
-    print_field("session repositories", its->repositories, models->repositories);
-    print_field("session ro", its->ro, models->ro);
-    print_field("session rw", its->rw, models->rw);
-    print_field("session count", its->count, models->count);
+    if (its != others)
+        printf("  %s: %s %llu (0x%llx), %s %llu (0x%llx)\n", field, names.one, (unsigned long long)its,
+               (unsigned long long)its, names.other, (unsigned long long)others, (unsigned long long)others);
+}
+
+static void print_sessions(pair names, const chip_session *its, const chip_session *others)
+{
+    print_field(names, "session opened", its->opened, others->opened);
+    print_field(names, "session recording", its->recording, others->recording);
+    print_field(names, "session transaction", its->transaction, others->transaction);
+    print_field(names, "session repositories", its->repositories, others->repositories);
+    print_field(names, "session ro", its->ro, others->ro);
+    print_field(names, "session rw", its->rw, others->rw);
+    print_field(names, "session count", its->count, others->count);
     for (int e = 0; e < CHIP_EVENTS; e++) {
         char field[40];
         snprintf(field, sizeof field, "session events[%d].op", e);
-        print_field(field, its->events[e].op, models->events[e].op);
+        print_field(names, field, its->events[e].op, others->events[e].op);
         snprintf(field, sizeof field, "session events[%d].refusal", e);
-        print_field(field, its->events[e].refusal, models->events[e].refusal);
+        print_field(names, field, its->events[e].refusal, others->events[e].refusal);
         snprintf(field, sizeof field, "session events[%d].place", e);
-        print_field(field, its->events[e].place, models->events[e].place);
+        print_field(names, field, its->events[e].place, others->events[e].place);
     }
 }
 
-static void print_tables(const char *table, const uint64_t *its, const uint64_t *models, size_t words)
+static void print_tables(pair names, const char *table, const uint64_t *its, const uint64_t *others, size_t words)
 {
     int printed = 0;
     for (size_t n = 0; n < words; n++) {
-        if (its[n] == models[n])
+        if (its[n] == others[n])
             continue;
         if (printed++ == MOST_WORDS_PRINTED) {
             printf("  %s: more words differ\n", table);
@@ -58,26 +69,28 @@ static void print_tables(const char *table, const uint64_t *its, const uint64_t 
         }
         char word[40];
         snprintf(word, sizeof word, "%s[%zu]", table, n);
-        print_field(word, its[n], models[n]);
+        print_field(names, word, its[n], others[n]);
     }
 }
 
-void print_difference(const call *asked, const side *library, const chip_answer *its, const side *model,
-                      const chip_answer *models)
+static void print_tails(const side *s)
 {
-    printf("  op %u (%s), a %u, b %u, c %u; %zu working and %zu kept words\n", (unsigned)asked->op,
-           chip_operation_name(asked->op), (unsigned)asked->a, (unsigned)asked->b, (unsigned)asked->c,
-           model->working_words, model->kept_words);
-    if (its->refusal != models->refusal)
-        printf("  refusal: library %u %s, model %u %s\n", (unsigned)its->refusal, chip_refusal_name(its->refusal),
-               (unsigned)models->refusal, chip_refusal_name(models->refusal));
-    print_field("value", its->value, models->value);
-    print_field("place", its->place, models->place);
-    print_sessions(&its->session, &models->session);
-    print_tables("working", working_of(library), working_of(model), model->working_words);
-    print_tables("kept", kept_of(library), kept_of(model), model->kept_words);
-    if (!tails_untouched(library))
-        printf("  the library touched words from %d on\n", CHIP_WORDS);
-    if (!tails_untouched(model))
-        printf("  the model touched words from %d on\n", CHIP_WORDS);
+    if (!tails_untouched(s))
+        printf("  %s: words from %d on were touched\n", s->name, CHIP_WORDS);
+}
+
+void print_difference(const side *one, const chip_answer *its, const side *other, const chip_answer *others)
+{
+    pair names = {one->name, other->name};
+    printf("  %zu working and %zu kept words\n", other->working_words, other->kept_words);
+    if (its->refusal != others->refusal)
+        printf("  refusal: %s %u %s, %s %u %s\n", names.one, (unsigned)its->refusal, chip_refusal_name(its->refusal),
+               names.other, (unsigned)others->refusal, chip_refusal_name(others->refusal));
+    print_field(names, "value", its->value, others->value);
+    print_field(names, "place", its->place, others->place);
+    print_sessions(names, &its->session, &others->session);
+    print_tables(names, "working", working_of(one), working_of(other), other->working_words);
+    print_tables(names, "kept", kept_of(one), kept_of(other), other->kept_words);
+    print_tails(one);
+    print_tails(other);
 }

@@ -5,10 +5,11 @@
 #include "side.h"
 
 /* Refusal, value, place, every field of the session and every word of both tables. */
-int agree(const side *library, const chip_answer *its, const side *model, const chip_answer *models);
+int agree(const side *one, const chip_answer *its, const side *other, const chip_answer *others);
 
-/* Prints the call and what differs after it. */
-void print_difference(const call *asked, const side *library, const chip_answer *its, const side *model,
-                      const chip_answer *models);
+void print_call(const call *asked);
+
+/* Prints what differs. */
+void print_difference(const side *one, const chip_answer *its, const side *other, const chip_answer *others);
 
 #endif

@@ -7,14 +7,15 @@
 #include <sys/mman.h>
 
 /* A whole number of pages, whatever their usual size. */
-#define ROOM 65536
+#define PAGES 65536
 
-uint64_t *guarded_end(void)
+void *guarded_end(size_t bytes)
 {
-    char *room = mmap(NULL, 2 * ROOM, PROT_READ | PROT_WRITE, MAP_PRIVATE | MAP_ANONYMOUS, -1, 0);
-    if (room == MAP_FAILED || mprotect(room + ROOM, ROOM, PROT_NONE) != 0) {
-        fprintf(stderr, "compare: no memory for guarded tables\n");
+    size_t size = (bytes + PAGES - 1) / PAGES * PAGES;
+    char *room = mmap(NULL, size + PAGES, PROT_READ | PROT_WRITE, MAP_PRIVATE | MAP_ANONYMOUS, -1, 0);
+    if (room == MAP_FAILED || mprotect(room + size, PAGES, PROT_NONE) != 0) {
+        fprintf(stderr, "no memory for guarded tables and rows\n");
         exit(2);
     }
-    return (uint64_t *)(void *)(room + ROOM);
+    return room + size;
 }

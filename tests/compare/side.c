@@ -7,10 +7,10 @@
 static const uint64_t working_pattern = 0x9e3779b97f4a7c15;
 static const uint64_t kept_pattern = 0xbf58476d1ce4e5b9;
 
-side new_side(chip_function *function)
+side new_side(const char *name, chip_function *function)
 {
-    side s = {.function = function, .working_end = guarded_end(), .kept_end = guarded_end()};
-    return s;
+    const size_t most = MOST_WORDS * sizeof(uint64_t);
+    return (side){.name = name, .function = function, .working_end = guarded_end(most), .kept_end = guarded_end(most)};
 }
 
 uint64_t *working_of(const side *s)

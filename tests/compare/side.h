@@ -6,13 +6,14 @@
 
 /* Each table ends where its guard begins. */
 typedef struct side {
-    chip_function *function;
+    const char *name;
+    chip_function *function; /* of calls; NULL if it is asked none */
     chip_session session;
     uint64_t *working_end, *kept_end;
     size_t working_words, kept_words;
 } side;
 
-side new_side(chip_function *function);
+side new_side(const char *name, chip_function *function);
 
 uint64_t *working_of(const side *s);
 uint64_t *kept_of(const side *s);

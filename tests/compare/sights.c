@@ -9,6 +9,8 @@
 
 /* What a walk remembers of the calls so far. */
 typedef struct memory {
+    chip_session before;           /* of the call in hand, and the cursors */
+    uint64_t cursors[ENTRY_KINDS];
     uint64_t woken;                /* models whose access a read gave */
     uint32_t pending[ENTRY_KINDS]; /* the number that was given first since the last commit or drop */
     uint32_t dropped[ENTRY_KINDS]; /* the one of these that a drop took back, until another is given */
@@ -18,7 +20,6 @@ typedef struct memory {
 typedef struct view {
     const call *asked;
     const chip_session *before;
-    const uint64_t *cursors;
     const chip_answer *answer;
     const uint64_t *working;
     const memory *memory;
@@ -100,7 +101,7 @@ static int made(const view *v)
 /* The number that was tried first. */
 static uint64_t tried(const view *v)
 {
-    return v->cursors[v->kind];
+    return v->memory->cursors[v->kind];
 }
 
 static int is_free(const view *v, uint64_t number)
@@ -482,10 +483,16 @@ static void remember_numbers(const view *v)
         *pending = NO_NUMBER;
 }
 
-void see(const call *asked, const chip_session *before, const uint64_t *cursors, const chip_answer *answer,
-         const uint64_t *working)
+void look(const chip_session *session, const uint64_t *working)
 {
-    view v = {asked, before, cursors, answer, working, &remembered, 0};
+    remembered.before = *session;
+    for (int k = 0; k < ENTRY_KINDS; k++)
+        remembered.cursors[k] = working[entry_kinds[k].cursor];
+}
+
+void see(const call *asked, const chip_answer *answer, const uint64_t *working)
+{
+    view v = {asked, &remembered.before, answer, working, &remembered, 0};
     for (int n = 0; n < SIGHTS; n++)
         seen[n] = seen[n] || sights[n].is_seen(&v);
     remembered.woken = (remembered.woken | newly_woken(&v)) & answer->session.ro;

@@ -7,9 +7,11 @@
 /* Nothing that came before counts for what the next calls see. */
 void begin_walk(void);
 
-/* Counts what this call saw. `cursors` are those of the working table before it, `working` is that table after it. */
-void see(const call *asked, const chip_session *before, const uint64_t *cursors, const chip_answer *answer,
-         const uint64_t *working);
+/* Before each call: the session and the working table that it gets. */
+void look(const chip_session *session, const uint64_t *working);
+
+/* Counts what the call saw; `working` is the table after it. */
+void see(const call *asked, const chip_answer *answer, const uint64_t *working);
 
 /* Prints how many sights were seen and, if asked, the names of the others; returns how many others. */
 int print_sights(int names);

@@ -1,5 +1,5 @@
-//! What rust/chip.rs adds to the call: the same names and numbers as include/chip.h, and slices of any length.
-use chip::{call, Chip, Event, Operation, Place, Refusal, Refused, Session};
+//! What rust/chip.rs adds to the call: the same names and numbers as include/chip.h, slices of any length, and trays.
+use chip::{call, tray, Chip, Event, Operation, Order, Place, Refusal, Refused, Reply, Session};
 
 const REFUSALS: &str = "SY_ERR FN_NAVL SS_OPN SS_NOPN TR_EAB TR_EXS TR_NEXS TR_NAVL TR_NRW RP_NEXS RP_OPN RP_NOPN MO_NEXS MO_DUP \
      MO_NDEQ MO_NVLD MX_RO MX_RW MX_NDEF MX_NRW SD_NDEF SI_NEXS SI_DUP ED_NDEF ED_NDEQ ED_NVLD EI_NEXS AT_NDEF VA_NSET \
@@ -148,6 +148,125 @@ fn cursors_have_names() {
     }
 }
 
+/// A plate is made, measured and kept. Three orders are refused: before the transaction, for an attribute, for a number that
+/// is not listed.
+fn orders() -> [Order; 12] {
+    [
+        Order::new(Operation::OpenSession, 0, 0, 0),
+        Order::new(Operation::OpenRepository, 0, 0, 0),
+        Order::new(Operation::CreateModel, 0, 1, 7),
+        Order::new(Operation::StartRw, 0, 0, 0),
+        Order::new(Operation::CreateModel, 0, 1, 7),
+        Order::new(Operation::RwAccess, 0, 0, 0),
+        Order::new(Operation::CreateInstance, 0, chip::PLATE, 0),
+        Order::new(Operation::Put, 0, chip::PLATE_THICKNESS + 1, 25),
+        Order::new(Operation::Put, 0, chip::PLATE_THICKNESS, 25),
+        Order::new(Operation::Get, 0, chip::PLATE_THICKNESS, 0),
+        Order::new(Operation::EndCommit, 0, 0, 0),
+        Order::new(u32::MAX, 0, 0, 0),
+    ]
+}
+
+/// An answer that the library does not give.
+const MARK: Reply = Reply {
+    refusal: 0xa5a5,
+    place: 0xa5a5,
+    value: 0xa5a5_a5a5,
+};
+
+/// What an order has where nothing is sound.
+const UNSOUND: Reply = Reply {
+    refusal: 1,
+    place: 0,
+    value: 0,
+};
+
+fn trays_came_with_edition_4() {
+    assert_eq!(chip::EDITION, 4);
+    assert_eq!((size_of::<Order>(), size_of::<Reply>()), (16, 8));
+    assert_eq!(Reply::default().result(), Ok(0));
+    assert_eq!(UNSOUND.result(), by_itself(Refusal::SY_ERR));
+    assert_eq!(
+        MARK.result().unwrap_err().to_string(),
+        "unknown refusal, unknown place"
+    );
+}
+
+/// All orders in two trays, wherever the row is cut, the empty ones included: so the second goes on from the session that the
+/// first left.
+fn trays_answer_as_calls() {
+    let orders = orders();
+    for cut in 0..=orders.len() {
+        let (mut one, mut other) = (Chip::fresh(), Chip::fresh());
+        let mut answers = [MARK; 12];
+        assert_eq!(one.ask_tray(&orders[..cut], &mut answers[..cut]), Ok(()));
+        assert!(answers[cut..].iter().all(|answer| *answer == MARK));
+        assert_eq!(one.ask_tray(&orders[cut..], &mut answers[cut..]), Ok(()));
+        for (order, answer) in orders.iter().zip(answers) {
+            let single = other.ask(order.op, order.a, order.b, order.c);
+            assert_eq!(answer.result(), single);
+        }
+        assert_eq!(one, other);
+        assert_eq!(answers[2].result(), by_itself(Refusal::TR_NAVL));
+        assert_eq!(answers[9].result(), Ok(25));
+        assert_eq!(one.session.count, 3);
+    }
+}
+
+/// With too few answers nothing changes; with more than there are orders the rest stays.
+fn rows_may_differ_in_length() {
+    let (orders, mut on) = (orders(), Chip::fresh());
+    let mut answers = [MARK; 15];
+    assert_eq!(on.ask(Operation::OpenSession, 0, 0, 0), Ok(0));
+    let before = on.clone();
+    for places in 0..orders.len() {
+        assert_eq!(
+            on.ask_tray(&orders, &mut answers[..places]).map(|()| 0),
+            by_itself(Refusal::SY_ERR)
+        );
+        assert_eq!((&on, answers), (&before, [MARK; 15]));
+    }
+    assert_eq!(on.ask_tray(&orders, &mut answers), Ok(()));
+    assert_eq!(answers[0].result(), by_itself(Refusal::SS_OPN));
+    assert_eq!(answers[11].result(), by_itself(Refusal::FN_NAVL));
+    assert_eq!(answers[12..], [MARK; 3]);
+}
+
+/// Nothing is asked for, and of the state nothing is asked.
+fn empty_trays_are_done() {
+    let mut on = Chip::fresh();
+    for word in [0, 1] {
+        let mut answers = [MARK];
+        on.working[0] = word;
+        let before = on.clone();
+        assert_eq!(on.ask_tray(&[], &mut []), Ok(()));
+        assert_eq!(on.ask_tray(&[], &mut answers), Ok(()));
+        assert_eq!((&on, answers), (&before, [MARK]));
+    }
+}
+
+/// The tray is done, and each of its orders is refused.
+fn unsound_states_are_told_order_by_order() {
+    let (orders, mut on) = (orders(), Chip::fresh());
+    let mut answers = [MARK; 12];
+    on.working[0] = 1;
+    let before = on.clone();
+    assert_eq!(on.ask_tray(&orders, &mut answers), Ok(()));
+    assert_eq!((&on, answers), (&before, [UNSOUND; 12]));
+
+    let mut session = Session {
+        opened: 1,
+        ..Session::default()
+    };
+    let given = session;
+    answers = [MARK; 12];
+    assert_eq!(
+        tray(&orders, &mut answers, &mut session, &mut [], &mut []),
+        Ok(())
+    );
+    assert_eq!((session, answers), (given, [UNSOUND; 12]));
+}
+
 fn main() {
     refusals_have_names();
     places_have_names();
@@ -155,5 +274,10 @@ fn main() {
     listed_operations_have_names();
     short_tables_are_refused();
     cursors_have_names();
+    trays_came_with_edition_4();
+    trays_answer_as_calls();
+    rows_may_differ_in_length();
+    empty_trays_are_done();
+    unsound_states_are_told_order_by_order();
     println!("face in Rust: as in C");
 }

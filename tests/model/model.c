@@ -1,4 +1,4 @@
-/* The order is that of document 01: words, dictionary, soundness, operations. */
+/* The order is that of document 01: words, dictionary, soundness, operations; then the tray of document 02. */
 #include "model.h"
 
 #include "dictionary.h"
@@ -888,6 +888,15 @@ static void record_event(chip_session *session, uint32_t op, outcome refusal)
     session->events[session->count++] = (chip_event){op, (uint8_t)refusal, (uint8_t)(refusal >> 8)};
 }
 
+/* An operation on a sound state, with the event of its refusal. */
+static outcome step(machine *on, uint32_t op, uint32_t a, uint32_t b, uint32_t c)
+{
+    outcome refusal = perform(on, op, a, b, c);
+    if (refusal && on->session->recording)
+        record_event(on->session, op, refusal);
+    return refusal;
+}
+
 chip_answer model_core(uint32_t op, uint32_t a, uint32_t b, uint32_t c, chip_session session,
                        uint64_t *working, size_t working_words,
                        uint64_t *kept, size_t kept_words)
@@ -895,9 +904,7 @@ chip_answer model_core(uint32_t op, uint32_t a, uint32_t b, uint32_t c, chip_ses
     (void)working_words;
     (void)kept_words;
     machine on = {&session, working, kept, 0};
-    outcome refusal = perform(&on, op, a, b, c);
-    if (refusal && session.recording)
-        record_event(&session, op, refusal);
+    outcome refusal = step(&on, op, a, b, c);
     return (chip_answer){refusal & 0xff, refusal >> 8, on.value, session};
 }
 
@@ -908,4 +915,38 @@ chip_answer model_call(uint32_t op, uint32_t a, uint32_t b, uint32_t c, chip_ses
     if (!sound(&session, working, working_words, kept, kept_words))
         return (chip_answer){CHIP_SY_ERR, CHIP_PLACE_NONE, 0, session};
     return model_core(op, a, b, c, session, working, working_words, kept, kept_words);
+}
+
+/* ---- A whole tray ---- */
+
+/* Each order leaves a sound state sound, so that it is not tested again. */
+static void follow(machine *on, const chip_order *orders, size_t count, chip_result *answers)
+{
+    for (size_t n = 0; n < count; n++) {
+        on->value = 0;
+        outcome refusal = step(on, orders[n].op, orders[n].a, orders[n].b, orders[n].c);
+        answers[n] = (chip_result){refusal & 0xff, refusal >> 8, on->value};
+    }
+}
+
+/* Each order leaves an unsound state as it is. */
+static void refuse_all(size_t count, chip_result *answers)
+{
+    for (size_t n = 0; n < count; n++)
+        answers[n] = (chip_result){CHIP_SY_ERR, CHIP_PLACE_NONE, 0};
+}
+
+chip_answer model_tray(const chip_order *orders, size_t count, chip_result *answers, size_t places,
+                       chip_session session,
+                       uint64_t *working, size_t working_words,
+                       uint64_t *kept, size_t kept_words)
+{
+    machine on = {&session, working, kept, 0};
+    if (places < count)
+        return (chip_answer){CHIP_SY_ERR, CHIP_PLACE_NONE, 0, session};
+    if (sound(&session, working, working_words, kept, kept_words))
+        follow(&on, orders, count, answers);
+    else
+        refuse_all(count, answers);
+    return (chip_answer){CHIP_DONE, CHIP_PLACE_NONE, 0, session};
 }

@@ -14,4 +14,10 @@ chip_answer model_core(uint32_t op, uint32_t a, uint32_t b, uint32_t c, chip_ses
                        uint64_t *working, size_t working_words,
                        uint64_t *kept, size_t kept_words);
 
+/* Answers as chip_tray must, for every input. */
+chip_answer model_tray(const chip_order *orders, size_t count, chip_result *answers, size_t places,
+                       chip_session session,
+                       uint64_t *working, size_t working_words,
+                       uint64_t *kept, size_t kept_words);
+
 #endif

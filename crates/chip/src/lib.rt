@@ -1,7 +1,10 @@
-// The face for C and Rust: include/chip.h declares it. Numbers pass as themselves, the session and the answer by value,
-// a table as a pointer and a length.
+// The face for C and Rust, a call here and a tray beside it: include/chip.h declares both. Numbers pass as themselves, the
+// session and the answer by value, a table or a row as a pointer and a length.
 ghost use mathlib.Core.Path.{_≡_};
 ghost use Rattle.session.specs.Step.{outcome, step};
+
+pub mod tray;
+
 use session::call::call;
 use state::state::Answer;
 use state::state::Session;

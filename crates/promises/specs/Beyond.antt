@@ -19,12 +19,13 @@ use Rattle.state.specs.declared.state.Answer.{Answer}
 use Rattle.session.specs.declared.effects.Tables.{Tables}
 use Rattle.session.specs.declared.effects.Tables.the-variants.{Stay, Commit, Drop, Changed}
 use Rattle.state.specs.Refusals.{SY-ERR}
+use Rattle.state.specs.States.{answer}
 use Rattle.checks.specs.Operations.{operationOf}
 use Rattle.session.specs.Sound.{soundSession, sound}
 use Rattle.checks.specs.Checks.{firstOf, gate}
 use Rattle.session.specs.Effects.{workingAfter, keptAfter, unlessRefused}
 use Rattle.session.specs.Rows.{Row, effect, refusalOf, performed}
-use Rattle.session.specs.Step.{Outcome, answer, outcome, finished, core, step}
+use Rattle.session.specs.Step.{Outcome, outcome, finished, core, step}
 use Rattle.session.specs.Runs.{Call, Answered, Chip, Empty, Fresh, answered, answeredBy, outcomeOf, afterBy, historyBy, after, history}
 use Rattle.promises.specs.Keeps.SessionFacts.{Sound, sound-test}
 use Rattle.promises.specs.Keeps.Ways.{Way, unsound, refusing, doing, way}

@@ -1,5 +1,5 @@
 -- Soundness stays: what a call on a sound state leaves is sound. (A name or a value is a u32, so the third argument is below 2^32.)
-use mathlib.Core.Path.{_≡_}
+use mathlib.Core.Path.{_≡_, refl, sym, _∙_}
 use mathlib.Core.Bool.{true}
 use mathlib.Core.List.{List}
 use Prim.Native.Nat.{ℕ, _<_}
@@ -26,3 +26,13 @@ by-way op a b c x w k o (doing s p e) l h =
 
 pub soundness-stays : (op a b c : ℕ) (x : Session) (w k : List ℕ) → c < 0x1_0000_0000 → sound x w k ≡ true → leavesSound (step op a b c x w k)
 soundness-stays op a b c x w k l h = by-way op a b c x w k (step op a b c x w k) (way op a b c x w k) l h
+
+told-by-way : (op a b c : ℕ) (x : Session) (w k : List ℕ) (o : Outcome) → Way op a b c x w k o → c < 0x1_0000_0000 → sound (o .answer .session) (o .working) (o .kept) ≡ sound x w k
+told-by-way op a b c x w k o (unsound u) l = refl
+told-by-way op a b c x w k o (refusing r s e) l = by-way op a b c x w k o (refusing r s e) l s ∙ sym s
+told-by-way op a b c x w k o (doing s p e) l = by-way op a b c x w k o (doing s p e) l s ∙ sym s
+
+-- what a call leaves is sound exactly if the state was: an unsound one it leaves as it was
+pub soundness-told : (op a b c : ℕ) (x : Session) (w k : List ℕ) → c < 0x1_0000_0000
+    → sound (step op a b c x w k .answer .session) (step op a b c x w k .working) (step op a b c x w k .kept) ≡ sound x w k
+soundness-told op a b c x w k l = told-by-way op a b c x w k (step op a b c x w k) (way op a b c x w k) l

@@ -36,6 +36,9 @@ pub record Chip : Type 0 where
   pub working : List ℕ
   pub kept : List ℕ
 
+abbrev pub chipOf : Session → List ℕ → List ℕ → Chip
+chipOf x w k = record { session = x; working = w; kept = k }
+
 -- ---- fresh (CHIP, sound session): the session closed, the words in use 0
 
 abbrev pub freshSession : Session
@@ -56,7 +59,7 @@ unfoldable pub freshTable : List ℕ
 freshTable = replicate words 0
 
 abbrev pub freshChip : Chip
-freshChip = record { session = freshSession; working = freshTable; kept = freshTable }
+freshChip = chipOf freshSession freshTable freshTable
 
 -- ---- one call after the other
 
@@ -68,7 +71,7 @@ abbrev pub outcomeBy : Machine → Chip → Call → Outcome
 outcomeBy machine chip q = machine (q .op) (q .a) (q .b) (q .c) (chip .session) (chip .working) (chip .kept)
 
 abbrev pub left : Outcome → Chip
-left o = record { session = o .answer .session; working = o .working; kept = o .kept }
+left o = chipOf (o .answer .session) (o .working) (o .kept)
 
 abbrev pub answered : Call → Answer → Answered
 answered q a = record { call = q; refusal = a .refusal; place = a .place; value = a .value }

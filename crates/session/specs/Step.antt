@@ -1,15 +1,15 @@
 -- One call: answer, session and tables after it.
 use Prim.Native.Nat.{ℕ}
-use mathlib.Core.Bool.{cond}
+use mathlib.Core.Bool.{Bool, cond}
 use mathlib.Core.List.{List}
 use lib.Dec.{eqb}
 use Rattle.state.specs.declared.state.Log.{Log}
 use Rattle.state.specs.declared.state.State.{State}
 use Rattle.state.specs.declared.state.Session.{Session}
 use Rattle.state.specs.declared.state.Answer.{Answer}
-use Rattle.state.specs.Refusals.{SY-ERR, done, _on_, numberIn, placeIn}
+use Rattle.state.specs.Refusals.{SY-ERR, done, _on_}
 use Rattle.checks.specs.Operations.{operationOf}
-use Rattle.state.specs.States.{isOpen, blankLog, session, noted}
+use Rattle.state.specs.States.{isOpen, blankLog, session, noted, answer}
 use Rattle.session.specs.Sound.{sound}
 use Rattle.session.specs.declared.effects.Effect.{Effect}
 use Rattle.session.specs.Effects.{workingAfter, keptAfter}
@@ -19,9 +19,6 @@ pub record Outcome : Type 0 where
   pub answer : Answer
   pub working : List ℕ
   pub kept : List ℕ
-
-abbrev pub answer : ℕ → ℕ → Session → Answer
-answer refusal value x = record { refusal = numberIn refusal; place = placeIn refusal; value = value; session = x }
 
 abbrev pub outcome : Answer → List ℕ → List ℕ → Outcome
 outcome a w k = record { answer = a; working = w; kept = k }
@@ -46,6 +43,9 @@ finished op x w k e =
 unfoldable pub core : ℕ → ℕ → ℕ → ℕ → Session → List ℕ → List ℕ → Outcome
 core op a b c x w k = finished op x w k (performed (operationOf op) a b c (x .state) w)
 
--- SY_ERR comes before all else (CHIP, before every call), and gives the session back as it came
+-- by whether the state is sound: SY_ERR comes before all else (CHIP, before every call), and gives the session back as it came
+abbrev pub judged : Bool → ℕ → ℕ → ℕ → ℕ → Session → List ℕ → List ℕ → Outcome
+judged isSound op a b c x w k = cond isSound (core op a b c x w k) (outcome (answer (SY-ERR on 0) 0 x) w k)
+
 unfoldable pub step : ℕ → ℕ → ℕ → ℕ → Session → List ℕ → List ℕ → Outcome
-step op a b c x w k = cond (sound x w k) (core op a b c x w k) (outcome (answer (SY-ERR on 0) 0 x) w k)
+step op a b c x w k = judged (sound x w k) op a b c x w k

@@ -1,30 +1,26 @@
-// The one place that builds answers.
+// The answer of a call: what its session holds after it.
 ghost use mathlib.Core.Path.{_≡_};
 ghost use mathlib.Core.Logic.{_⊎_};
 ghost use Rattle.state.specs.Refusals.{SY-ERR, done, _on_};
-ghost use Rattle.session.specs.Step.{answer, finishedAnswer};
+ghost use Rattle.state.specs.States.{answer};
+ghost use Rattle.session.specs.Step.{finishedAnswer};
 ghost use Rattle.session.specs.Quick.Answers.{logOf};
 use state::events::blank_log;
 use state::events::noted;
 use state::refusals;
-use state::refusals::number_in;
-use state::refusals::place_in;
+use state::refusals::on;
 use state::state::Answer;
 use state::state::Log;
 use state::state::Session;
 use state::state::State;
+use state::state::answer_of;
 use state::state::is_open;
 
 // SY_ERR adds no event: the session goes back as it came.
 pub fn unsound(x: Session) -> Answer
     ensures { λ r. ⌜ r ≡ answer (SY-ERR on 0) 0 x ⌝ }
 {
-    Answer {
-        refusal: refusals::SY_ERR as u16,
-        place: 0,
-        value: 0,
-        session: x,
-    }
+    answer_of(on(refusals::SY_ERR, 0), 0, x)
 }
 
 // A refusal may add an event, and a closed session has none.
@@ -45,13 +41,12 @@ pub fn finished(op: u32, x: Session, refusal: u32, value: u32, state: State) -> 
     requires { ⌜ (refusal ≡ done) ⊎ ((value ≡ 0) × (state ≡ x .state)) ⌝ }
     ensures { λ r. ⌜ r ≡ finishedAnswer op x refusal value state ⌝ }
 {
-    Answer {
-        refusal: number_in(refusal) as u16,
-        place: place_in(refusal) as u16,
+    answer_of(
+        refusal,
         value,
-        session: Session {
+        Session {
             state,
             log: log_after(op, refusal, x, state),
         },
-    }
+    )
 }

@@ -3,7 +3,7 @@
 ghost use mathlib.Core.Path.{_≡_};
 ghost use Rattle.session.specs.Effects.{workingAfter, keptAfter};
 ghost use Rattle.session.specs.Sound.{sound as soundState};
-ghost use Rattle.session.specs.Step.{outcome, core as coreOf, step};
+ghost use Rattle.session.specs.Step.{outcome, core as coreOf, judged as judgedOf, step};
 use crate::answers::finished;
 use crate::answers::unsound;
 use crate::effects::Tables;
@@ -48,7 +48,7 @@ pub fn core(
     finished(op, x, e.refusal, e.value, e.state)
 }
 
-fn is_sound(x: Session, working: &[u64], kept: &[u64]) -> bool
+pub fn is_sound(x: Session, working: &[u64], kept: &[u64]) -> bool
     ensures { λ r. ⌜ r ≡ soundState x (now (working .entry)) (now (kept .entry)) ⌝ }
 {
     let state = x.state;
@@ -56,6 +56,25 @@ fn is_sound(x: Session, working: &[u64], kept: &[u64]) -> bool
         return false;
     }
     sound_session(x, working)
+}
+
+// A call on a state of which is known whether it is sound.
+pub fn judged(
+    sound: bool,
+    op: u32,
+    a: u32,
+    b: u32,
+    c: u32,
+    x: Session,
+    working: &mut [u64],
+    kept: &mut [u64],
+) -> Answer
+    ensures { λ r. ⌜ outcome r (now (working .exit)) (now (kept .exit)) ≡ judgedOf sound op a b c x (now (working .entry)) (now (kept .entry)) ⌝ }
+{
+    if !sound {
+        return unsound(x);
+    }
+    core(op, a, b, c, x, working, kept)
 }
 
 pub fn call(
@@ -69,8 +88,5 @@ pub fn call(
 ) -> Answer
     ensures { λ r. ⌜ outcome r (now (working .exit)) (now (kept .exit)) ≡ step op a b c x (now (working .entry)) (now (kept .entry)) ⌝ }
 {
-    if !is_sound(x, working, kept) {
-        return unsound(x);
-    }
-    core(op, a, b, c, x, working, kept)
+    judged(is_sound(x, working, kept), op, a, b, c, x, working, kept)
 }

@@ -9,6 +9,7 @@ use Rattle.state.specs.declared.state.State.{State}
 use Rattle.state.specs.declared.state.Event.{Event}
 use Rattle.state.specs.declared.state.Log.{Log}
 use Rattle.state.specs.declared.state.Session.{Session}
+use Rattle.state.specs.declared.state.Answer.{Answer}
 use Rattle.state.specs.Refusals.{numberIn, placeIn}
 
 -- the transaction
@@ -94,3 +95,8 @@ noted x op refusal =
     cond (isOpen (x .state) && eqb (x .state .recording) 1)
     (session (x .state) (added (x .log) (event op refusal)))
     x
+
+-- ---- an answer: a refusal on its place, or done, a value, and the session that goes back
+
+abbrev pub answer : ℕ → ℕ → Session → Answer
+answer refusal value x = record { refusal = numberIn refusal; place = placeIn refusal; value = value; session = x }

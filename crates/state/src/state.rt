@@ -1,7 +1,9 @@
 // A session, as a caller holds it between calls: integers alone, every bit pattern a value, and the test of soundness
 // judges each.
 ghost use mathlib.Core.Path.{_≡_};
-ghost use Rattle.state.specs.States.{isOpen, under as isUnder, withRecording, withTransaction, withRepositories, withAccess, woken as wokenIn, ended as endedState, closedState, openedState};
+ghost use Rattle.state.specs.States.{isOpen, under as isUnder, withRecording, withTransaction, withRepositories, withAccess, woken as wokenIn, ended as endedState, closedState, openedState, answer};
+use crate::refusals::number_in;
+use crate::refusals::place_in;
 use words::sets::EMPTY;
 use words::sets::has;
 use words::sets::with;
@@ -140,5 +142,17 @@ pub fn opened_state() -> State
         repositories: EMPTY,
         ro: EMPTY,
         rw: EMPTY,
+    }
+}
+
+// A refusal on its place, a value and the session that goes back: this is the one place that builds answers.
+pub fn answer_of(refusal: u32, value: u32, session: Session) -> Answer
+    ensures { λ r. ⌜ r ≡ answer refusal value session ⌝ }
+{
+    Answer {
+        refusal: number_in(refusal) as u16,
+        place: place_in(refusal) as u16,
+        value,
+        session,
     }
 }

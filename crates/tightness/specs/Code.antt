@@ -1,8 +1,8 @@
--- What the promises say of the code itself: of whatever meets the contract of `chip_call`, the function that is linked, or of
--- `call`. `Post` is a contract as the checker reads it off the source: of the arguments a, the answer r, and what the lent
+-- What the promises say of the code itself: of whatever meets the contract of `chip_call` or `chip_tray`, the functions that are
+-- linked, or of `call`. `Post` is a contract as the checker reads it off the source: of the arguments a, the answer r, and what the lent
 -- tables hold at exit, s.
 use mathlib.Core.Path.{_≡_, refl, ap, _∙_}
-use mathlib.Core.List.{List, [], _∷_}
+use mathlib.Core.List.{List, [], _∷_, _++_}
 use Prim.Native.Nat.{ℕ}
 use denote.Ref.{now}
 use Rattle.state.specs.declared.state.Session.{Session}
@@ -13,6 +13,10 @@ use Rattle.promises.specs.Refusal.{LeftAlone, refusal-leaves-alone, done-names-
 use Rattle.promises.specs.Stays.{soundness-stays}
 use Rattle.promises.specs.Reached.{SoundChip}
 use Rattle.promises.specs.Beyond.{BeyondKept, never-written, AlikeChips, AlikeLeft, alike-outcomes}
+use Rattle.chip.specs.declared.tray.Order.{Order}
+use Rattle.chip.specs.declared.tray.Result.{Result}
+use Rattle.chip.specs.Tray.{Trayed, asked}
+use Rattle.tightness.specs.Trays.{TrayPost, leftBy, Told, tray-done, tray-refused, told-is-history, after-more, history-more}
 use Rattle.session.proofs.call.call.Reads as session-call
 use Rattle.chip.proofs.chip_call.Reads as chip-call
 
@@ -68,18 +72,29 @@ module _ (q : Call) (chip : Chip) (o : Outcome) (c : Called q chip o) where
 
 -- ---- calls one after the other
 
--- calls of the code one after the other, each on what the one before it left: the latest first
+-- calls and trays of the code one after the other, each on what the one before it left: the latest first. A tray that is done is
+-- the calls of its orders, each answered as the row of answers tells; one that is refused is no call.
 pub data Run (begun : Chip) : List Call → Chip → List Answered → Type 0 where
   begins : Run begun [] begun []
   then : {calls : List Call} {chip : Chip} {h : List Answered} → Run begun calls chip h
       → (q : Call) (o : Outcome) → Called q chip o
       → Run begun (q ∷ calls) (left o) (answeredBy q o ∷ h)
+  then-tray : {calls : List Call} {chip : Chip} {h : List Answered} → Run begun calls chip h
+      → (orders : List Order) (row : List Result) (t : Trayed) → TrayPost orders row chip t → t .answer .refusal ≡ done
+      → (told : List Answered) → Told orders (t .answers) told
+      → Run begun (asked orders ++ calls) (leftBy t) (told ++ h)
+  then-refused : {calls : List Call} {chip : Chip} {h : List Answered} → Run begun calls chip h
+      → (orders : List Order) (row : List Result) (t : Trayed) → TrayPost orders row chip t → (t .answer .refusal ≡ done → ⊥)
+      → Run begun calls (leftBy t) h
 
 -- **It is the run of `step`**: the same chip, the same history.
 pub run-after : {begun : Chip} {calls : List Call} {chip : Chip} {h : List Answered} → Run begun calls chip h → chip ≡ after begun calls
 unfolding afterBy
 run-after begins = refl
 run-after (then {chip} run q o c) = ap left (as-step q chip o c) ∙ ap (λ (x : Chip). left (outcomeOf x q)) (run-after run)
+run-after {begun} (then-tray {calls} {chip} run orders row t p d told h) =
+    ap leftBy (tray-done orders row chip t p d) ∙ ap (λ (x : Chip). after x (asked orders)) (run-after run) ∙ after-more begun (asked orders) calls
+run-after (then-refused {chip} run orders row t p n) = ap leftBy (tray-refused orders row chip t p n) ∙ run-after run
 
 pub run-history : {begun : Chip} {calls : List Call} {chip : Chip} {h : List Answered} → Run begun calls chip h → h ≡ history begun calls
 unfolding historyBy
@@ -89,3 +104,9 @@ run-history {begun} (then {calls} {chip} {h} run q o c) =
     ∙ ap
     (λ (x : Outcome). answeredBy q x ∷ history begun calls)
     (as-step q chip o c ∙ ap (λ (x : Chip). outcomeOf x q) (run-after run))
+run-history {begun} (then-tray {calls} {chip} {h} run orders row t p d told g) =
+    ap (λ (l : List Answered). l ++ h) (told-is-history orders row chip t p d told g)
+    ∙ ap (λ (x : Chip). history x (asked orders) ++ h) (run-after run)
+    ∙ ap (λ (l : List Answered). history (after begun calls) (asked orders) ++ l) (run-history run)
+    ∙ history-more begun (asked orders) calls
+run-history (then-refused run orders row t p n) = run-history run

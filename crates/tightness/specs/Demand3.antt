@@ -2,7 +2,7 @@
 use mathlib.Core.Path.{_≡_, refl, sym, ap, _∙_}
 use mathlib.Core.Bool.{true, false, not, false≢true}
 use mathlib.Core.Logic.{_↔_, _⊎_, inl, inr}
-use mathlib.Core.List.{List, [], _∷_}
+use mathlib.Core.List.{List, [], _∷_, _++_}
 use Prim.Native.Nat.{ℕ}
 use native.Mathlib.Omega.{arith}
 use lib.Dec.{eqb}
@@ -31,7 +31,11 @@ use Rattle.history.specs.Remains.{remainingIf, remaining}
 use Rattle.history.specs.Live.{LiveModel, now}
 use Rattle.history.specs.Demand3.{Tells, Full, creationOf, Creates, ComesNext}
 use Rattle.history.specs.Theorems.{tells, kept-tells, no-room, no-room-answered, next-number}
-use Rattle.tightness.specs.Code.{Called, as-step, Run, run-after, run-history}
+use Rattle.chip.specs.declared.tray.Order.{Order}
+use Rattle.chip.specs.declared.tray.Result.{Result}
+use Rattle.chip.specs.Tray.{Trayed}
+use Rattle.tightness.specs.Trays.{TrayPost, Told}
+use Rattle.tightness.specs.Code.{Called, as-step, Run, then-tray, run-after, run-history}
 
 -- ---- demand 3, of the code
 
@@ -58,6 +62,16 @@ module _ {begun : Chip} (fresh : Fresh begun) {calls : List Call} {chip : Chip} 
   pub code-next-number : (kind : Kind) (q : Call) → q .op ≡ creationOf kind → (o : Outcome) → Called q chip o → o .answer .refusal ≡ done → ComesNext kind (remaining h) (o .answer .value)
   code-next-number kind q number o c e =
       rw (as-step q chip o c, run-history run, run-after run) (next-number begun fresh calls kind q number (rw (as-step q chip o c, run-after run) at e))
+
+-- **So it is of a tray, with no word more**: after one that is done on such a chip the tables hold what remains of all calls so far
+-- with those of its orders, each answered as its record in the row of answers tells.
+module _ {begun : Chip} (fresh : Fresh begun) {calls : List Call} {chip : Chip} {h : List Answered} (run : Run begun calls chip h) (orders : List Order) (row : List Result) (t : Trayed)
+    (p : TrayPost orders row chip t) (d : t .answer .refusal ≡ done) (told : List Answered) (g : Told orders (t .answers) told) where
+  pub code-tray-tells : Tells (t .working) (remaining (told ++ h))
+  code-tray-tells = code-tells fresh (then-tray run orders row t p d told g)
+
+  pub code-tray-kept-tells : Tells (t .kept) (remainingIf (told ++ h) true)
+  code-tray-kept-tells = code-kept-tells fresh (then-tray run orders row t p d told g)
 
 -- ---- a library that opens a session as it should and from then on only answers
 

@@ -1,3 +1,4 @@
 pub mod Unique
+pub mod Trays
 pub mod Code
 pub mod Demand3

@@ -79,6 +79,7 @@ use Rattle.state.proofs.state.woken.Reads as state-state-woken
 use Rattle.state.proofs.state.ended.Reads as state-state-ended
 use Rattle.state.proofs.state.closed_state.Reads as state-state-closed-state
 use Rattle.state.proofs.state.opened_state.Reads as state-state-opened-state
+use Rattle.state.proofs.state.answer_of.Reads as state-state-answer-of
 use Rattle.checks.proofs.operations.operation_of.Reads as checks-operations-operation-of
 use Rattle.checks.proofs.conditions.no_repository.Reads as checks-conditions-no-repository
 use Rattle.checks.proofs.conditions.not_opened.Reads as checks-conditions-not-opened
@@ -99,6 +100,8 @@ use Rattle.checks.proofs.shared.writable.Reads as checks-shared-writable
 use Rattle.checks.proofs.shared.accessed.Reads as checks-shared-accessed
 use Rattle.checks.proofs.gate.gate.Reads as checks-gate-gate
 use Rattle.session.proofs.call.core.Reads as session-call-core
+use Rattle.session.proofs.call.is_sound.Reads as session-call-is-sound
+use Rattle.session.proofs.call.judged.Reads as session-call-judged
 use Rattle.session.proofs.call.call.Reads as session-call-call
 use Rattle.records.proofs.decoding.decode.Reads as records-decoding-decode
 use Rattle.records.proofs.lines.line.Reads as records-lines-line
@@ -340,6 +343,9 @@ state-state-closed-state-one κs a x y s s′ p q = p ∙ sym q
 pub state-state-opened-state-one : (κs : _) (a : _) (x y : _) (s s′ : _) → state-state-opened-state.Post κs a x s → state-state-opened-state.Post κs a y s′ → x ≡ y
 state-state-opened-state-one κs a x y s s′ p q = p ∙ sym q
 
+pub state-state-answer-of-one : (κs : _) (a : _) (x y : _) (s s′ : _) → state-state-answer-of.Post κs a x s → state-state-answer-of.Post κs a y s′ → x ≡ y
+state-state-answer-of-one κs a x y s s′ p q = p ∙ sym q
+
 -- ---- checks
 
 pub checks-operations-operation-of-one : (κs : _) (a : _) (x y : _) (s s′ : _) → checks-operations-operation-of.Post κs a x s → checks-operations-operation-of.Post κs a y s′ → x ≡ y
@@ -405,6 +411,13 @@ pub session-call-core-one : (κs : _) (a : _) (x y : _) (s s′ : _) → session
     → outcome x (now (s .1 .1 .1 .1 .1 .0)) (now (s .1 .1 .1 .1 .1 .1 .0)) ≡ outcome y (now (s′ .1 .1 .1 .1 .1 .0)) (now (s′ .1 .1 .1 .1 .1 .1 .0))
 session-call-core-one κs a x y s s′ p q = p ∙ sym q
 
+pub session-call-is-sound-one : (κs : _) (a : _) (x y : _) (s s′ : _) → session-call-is-sound.Post κs a x s → session-call-is-sound.Post κs a y s′ → x ≡ y
+session-call-is-sound-one κs a x y s s′ p q = p ∙ sym q
+
+pub session-call-judged-one : (κs : _) (a : _) (x y : _) (s s′ : _) → session-call-judged.Post κs a x s → session-call-judged.Post κs a y s′
+    → outcome x (now (s .1 .1 .1 .1 .1 .1 .0)) (now (s .1 .1 .1 .1 .1 .1 .1 .0)) ≡ outcome y (now (s′ .1 .1 .1 .1 .1 .1 .0)) (now (s′ .1 .1 .1 .1 .1 .1 .1 .0))
+session-call-judged-one κs a x y s s′ p q = p ∙ sym q
+
 pub session-call-call-one : (κs : _) (a : _) (x y : _) (s s′ : _) → session-call-call.Post κs a x s → session-call-call.Post κs a y s′
     → outcome x (now (s .1 .1 .1 .1 .1 .0)) (now (s .1 .1 .1 .1 .1 .1 .0)) ≡ outcome y (now (s′ .1 .1 .1 .1 .1 .0)) (now (s′ .1 .1 .1 .1 .1 .1 .0))
 session-call-call-one κs a x y s s′ p q = p ∙ sym q
@@ -423,7 +436,7 @@ records-lines-bad-one κs a x y s s′ p q = (p .1 ∙ sym (q .1), p .0 ∙ sym 
 pub records-lines-end-one : (κs : _) (a : _) (x y : _) (s s′ : _) → records-lines-end.Post κs a x s → records-lines-end.Post κs a y s′ → (x ≡ y) × (now (s .0) ≡ now (s′ .0))
 records-lines-end-one κs a x y s s′ p q = (p .1 ∙ sym (q .1), p .0 ∙ sym (q .0))
 
--- ---- the faces for C: chip and, for the bench, bench_core
+-- ---- the faces for C: chip, whose `chip_tray` is in Trays.antt, and, for the bench, bench_core
 
 pub chip-chip-call-one : (κs : _) (a : _) (x y : _) (s s′ : _) → chip-chip-call.Post κs a x s → chip-chip-call.Post κs a y s′
     → outcome x (now (s .1 .1 .1 .1 .1 .0)) (now (s .1 .1 .1 .1 .1 .1 .0)) ≡ outcome y (now (s′ .1 .1 .1 .1 .1 .0)) (now (s′ .1 .1 .1 .1 .1 .1 .0))

@@ -11,11 +11,11 @@ use Rattle.state.specs.declared.state.Session.{Session}
 use Rattle.session.specs.declared.effects.Effect.{Effect}
 use Rattle.state.specs.Refusals.{SY-ERR, done}
 use Rattle.checks.specs.Operations.{operationOf}
-use Rattle.state.specs.States.{session}
+use Rattle.state.specs.States.{session, answer}
 use Rattle.session.specs.Sound.{sound}
 use Rattle.session.specs.Effects.{workingAfter, keptAfter}
 use Rattle.session.specs.Rows.{refusalOf, effect}
-use Rattle.session.specs.Step.{Outcome, answer, outcome, refusedAnswer, logAfter, finished, core, step}
+use Rattle.session.specs.Step.{Outcome, outcome, refusedAnswer, logAfter, finished, core, step}
 use Rattle.session.specs.Laws.Range.{Refusing, Refused, row-fair, refusal-range}
 
 -- what a call that is done leaves

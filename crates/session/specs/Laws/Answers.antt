@@ -9,8 +9,8 @@ use Rattle.state.specs.declared.state.State.{State}
 use Rattle.state.specs.declared.state.Log.{Log}
 use Rattle.state.specs.declared.state.Session.{Session}
 use Rattle.state.specs.Refusals.{done}
-use Rattle.state.specs.States.{isOpen, event, added, session, noted}
-use Rattle.session.specs.Step.{answer, logAfter, finishedAnswer}
+use Rattle.state.specs.States.{isOpen, event, added, session, noted, answer}
+use Rattle.session.specs.Step.{logAfter, finishedAnswer}
 use Rattle.session.specs.Quick.Answers.{logOf}
 
 -- an event changes the log alone

@@ -6,9 +6,9 @@ use Rattle.session.proofs.answers.finished.Tie as tie
 
 returns : tie.Need-returns
 returns c =
-    let parts = c .before .before in
-    let a = parts .before .args in
-    rw (c .log-after .ensures, parts .number-in .ensures, c .before .place-in .ensures) (answer-built (a .op) (a .refusal) (a .value) (a .x) (a .state) (parts .before .pre))
+    let at-log = c .before in
+    let a = at-log .before .args in
+    rw (c .answer-of .ensures, at-log .log-after .ensures) (answer-built (a .op) (a .refusal) (a .value) (a .x) (a .state) (at-log .before .pre))
 
 pub finished-spec : {M : Type 1} → statement M
-finished-spec = tie.close (tie.spec (λ c. search needs) (λ c. search needs) (λ c. search needs) (λ c. search needs) (λ c. search needs) returns)
+finished-spec = tie.close (tie.spec (λ c. search needs) (λ c. search needs) returns)

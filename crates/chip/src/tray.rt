@@ -1,0 +1,121 @@
+// A whole tray at once (CHIP, trays): a row of orders, each answered as `chip_call` answers it, in that order.
+ghost use mathlib.Core.Path.{_≡_};
+ghost use Rattle.chip.specs.Tray.{trayed, tray};
+ghost use Rattle.chip.specs.Quick.Turns.{takenOf, closingOf, turnBy, begunWith, toldAt, turned, turnOf};
+ghost use Rattle.session.specs.Runs.{chipOf};
+use session::call::is_sound;
+use session::call::judged;
+use state::refusals::DONE;
+use state::refusals::SY_ERR;
+use state::refusals::on;
+use state::state::Answer;
+use state::state::Session;
+use state::state::answer_of;
+
+// An operation: its number and its arguments.
+#[repr(C)]
+pub struct Order {
+    pub op: u32,
+    pub a: u32,
+    pub b: u32,
+    pub c: u32,
+}
+
+// What it was answered; the session goes on to the next one.
+#[repr(C)]
+pub struct Result {
+    pub refusal: u16,
+    pub place: u16,
+    pub value: u32,
+}
+
+// What goes from order to order: the session, the last result, and whether the tray's state was found sound.
+pub struct Turn {
+    pub session: Session,
+    pub result: Result,
+    pub sound: bool,
+}
+
+// How many orders are taken: none where the row of answers is shorter.
+fn taken(orders: usize, places: usize) -> usize
+    ensures { λ r. ⌜ r ≡ takenOf orders places ⌝ }
+{
+    if orders <= places {
+        return orders;
+    }
+    0
+}
+
+// The tray's own answer.
+fn closing(orders: usize, places: usize, x: Session) -> Answer
+    ensures { λ r. ⌜ r ≡ closingOf orders places x ⌝ }
+{
+    if orders <= places {
+        return answer_of(DONE, 0, x);
+    }
+    answer_of(on(SY_ERR, 0), 0, x)
+}
+
+// What goes on from an answer: the session, and the rest of it as a result.
+fn turn_by(sound: bool, r: Answer) -> Turn
+    ensures { λ t. ⌜ t ≡ turnBy sound r ⌝ }
+{
+    let session = r.session;
+    Turn {
+        session,
+        result: Result {
+            refusal: r.refusal,
+            place: r.place,
+            value: r.value,
+        },
+        sound,
+    }
+}
+
+// Before the first order there is no result and nothing is known: neither is looked at.
+fn begun(x: Session) -> Turn
+    ensures { λ r. ⌜ r ≡ begunWith x ⌝ }
+{
+    turn_by(false, answer_of(DONE, 0, x))
+}
+
+// Whether the state is sound: the first order runs the test, and the others are told what it found.
+fn told(i: usize, sound: bool, x: Session, working: &[u64], kept: &[u64]) -> bool
+    ensures { λ r. ⌜ r ≡ toldAt i sound x (now (working .entry)) (now (kept .entry)) ⌝ }
+{
+    if i == 0 {
+        return is_sound(x, working, kept);
+    }
+    sound
+}
+
+// One order, on what the one before it left.
+fn next_turn(i: usize, o: Order, t: Turn, working: &mut [u64], kept: &mut [u64]) -> Turn
+    ensures { λ r. ⌜ turned r (now (working .exit)) (now (kept .exit)) ≡ turnOf i o t (now (working .entry)) (now (kept .entry)) ⌝ }
+{
+    let x = t.session;
+    let sound = told(i, t.sound, x, working, kept);
+    turn_by(sound, judged(sound, o.op, o.a, o.b, o.c, x, working, kept))
+}
+
+// The checker does not follow a slice of structs by itself: this function is proved by hand, and so it only moves structs.
+#[no_mangle]
+pub extern "C" fn chip_tray(
+    orders: &[Order],
+    answers: &mut [Result],
+    x: Session,
+    working: &mut [u64],
+    kept: &mut [u64],
+) -> Answer
+    ensures { λ r. ⌜ trayed r (now (answers .exit)) (now (working .exit)) (now (kept .exit)) ≡ tray (now (orders .entry)) (now (answers .entry)) (chipOf x (now (working .entry)) (now (kept .entry))) ⌝ }
+{
+    let n = taken(orders.len(), answers.len());
+    let mut t = begun(x);
+    let mut i: usize = 0;
+    while i < n {
+        t = next_turn(i, orders[i], t, working, kept);
+        answers[i] = t.result;
+        i += 1;
+    }
+    closing(orders.len(), answers.len(), t.session)
+}
