@@ -63,8 +63,9 @@ static subject unsound_at_end_in_ro(void)
 
 /* ---- the rows ---- */
 
-/* Instance 122 is a plate, 123 a cavity of another model than that of plate 2, 127 a repair that none refers to. The cursors
- * are 0, so what is made again in the last entry is found at the end of a whole round. */
+/* Instance 122 is a plate, 123 a cavity of another model than that of plate 2, 124 an assembly, whose reference leads to an
+ * item, two types above a plate, 127 a repair that none refers to. The cursors are 0, so what is made again in the last entry
+ * is found at the end of a whole round. */
 const task tasks[] = {
     {"get, in RO", full_in_ro, CHIP_DONE, 1, {{CHIP_GET, 122, 2, 0}}},
     {"get, in RW", full_in_rw, CHIP_DONE, 1, {{CHIP_GET, 122, 2, 0}}},
@@ -72,6 +73,7 @@ const task tasks[] = {
     {"test, in RW", full_in_rw, CHIP_DONE, 1, {{CHIP_TEST, 122, 2, 0}}},
     {"put of a number", full_in_rw, CHIP_DONE, 1, {{CHIP_PUT, 122, 2, 77}}},
     {"put of a reference to another model", full_in_rw, CHIP_DONE, 1, {{CHIP_PUT, 123, 2, 2}}},
+    {"put of a reference to a type two below", full_in_rw, CHIP_DONE, 1, {{CHIP_PUT, 124, 1, 2}}},
     {"delete, create instance", full_in_rw, CHIP_DONE, 2,
      {{CHIP_DELETE_INSTANCE, 127, 0, 0}, {CHIP_CREATE_INSTANCE, 0, 7, 0}}},
     {"delete, create, access model", full_in_rw, CHIP_DONE, 3,

@@ -17,9 +17,10 @@
  * (chip_restart).
  *
  * Cost: no memory is asked for, no file is touched, nothing is kept between calls. A call or a tray takes less than 2 KB of
- * stack on x86-64, besides the session and the answer in the caller's frame. The time of a call has a bound: every loop is
- * over the entries of a table. On a full chip most calls spend more than nine tenths of it on the test of soundness. A tray
- * makes that test once, so its time is about that of one test and of its operations alone. docs/BENCH.md has the times.
+ * stack on x86-64, besides the session and the answer in the caller's frame, whatever is asked: no function in it calls
+ * itself. The time of a call has a bound: every loop is over the entries of a table. On a full chip most calls spend more
+ * than nine tenths of it on the test of soundness. A tray makes that test once, so its time is about that of one test and
+ * of its operations alone. docs/BENCH.md has the times.
  *
  * Threads: there is no global state, so calls on different chips may run at the same time, in an interrupt too. Two calls
  * on one chip may not: the later one needs the session of the earlier. A tray counts as a call in this; two that run at the
@@ -42,9 +43,9 @@
 #include <stdint.h>
 
 /* The edition counts the change requests that are in; 0 is the base. The number is 10000 * major + 100 * minor + patch. */
-#define CHIP_EDITION 4
-#define CHIP_VERSION "0.5.0"
-#define CHIP_VERSION_NUMBER 500
+#define CHIP_EDITION 5
+#define CHIP_VERSION "0.6.0"
+#define CHIP_VERSION_NUMBER 600
 
 #ifdef __cplusplus
 extern "C" {

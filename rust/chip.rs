@@ -8,7 +8,7 @@
 use core::fmt;
 
 /// The edition that this file is for; 0 is the base.
-pub const EDITION: u32 = 4;
+pub const EDITION: u32 = 5;
 /// Words of a table that are in use; a table with fewer is `SY_ERR`.
 pub const WORDS: usize = 739;
 /// The word of the models' cursor, the number that a creation tries first; include/chip.h says how it moves.

@@ -17,6 +17,11 @@ static void expect(int holds, const char *what)
 
 /* ---- names ---- */
 
+static void edition_has_numbers(void)
+{
+    expect(CHIP_EDITION == 5 && CHIP_VERSION_NUMBER == 600 && strcmp(CHIP_VERSION, "0.6.0") == 0, "the edition");
+}
+
 #define NAMED(name) expect(strcmp(chip_refusal_name(CHIP_##name), #name) == 0, "the name of " #name)
 
 static void refusals_have_names(void)
@@ -174,9 +179,8 @@ static void cursors_have_bounds(void)
 
 /* ---- trays ---- */
 
-static void trays_came_with_edition_4(void)
+static void orders_and_results_have_sizes(void)
 {
-    expect(CHIP_EDITION == 4 && CHIP_VERSION_NUMBER == 500 && strcmp(CHIP_VERSION, "0.5.0") == 0, "the edition");
     expect(sizeof(chip_order) == 16 && sizeof(chip_result) == 8, "sizes of an order and a result");
     expect(offsetof(chip_result, refusal) == offsetof(chip_answer, refusal) &&
                offsetof(chip_result, place) == offsetof(chip_answer, place) &&
@@ -359,6 +363,7 @@ static void unsound_states_are_told_order_by_order(void)
 
 int main(void)
 {
+    edition_has_numbers();
     refusals_have_names();
     places_have_names();
     listed_operations_have_names();
@@ -367,7 +372,7 @@ int main(void)
     short_tables_are_refused();
     cursors_have_names();
     cursors_have_bounds();
-    trays_came_with_edition_4();
+    orders_and_results_have_sizes();
     trays_answer_as_calls();
     short_rows_are_refused();
     long_rows_keep_their_rest();

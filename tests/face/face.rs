@@ -1,6 +1,10 @@
 //! What rust/chip.rs adds to the call: the same names and numbers as include/chip.h, slices of any length, and trays.
 use chip::{call, tray, Chip, Event, Operation, Order, Place, Refusal, Refused, Reply, Session};
 
+fn edition_has_a_number() {
+    assert_eq!(chip::EDITION, 5);
+}
+
 const REFUSALS: &str = "SY_ERR FN_NAVL SS_OPN SS_NOPN TR_EAB TR_EXS TR_NEXS TR_NAVL TR_NRW RP_NEXS RP_OPN RP_NOPN MO_NEXS MO_DUP \
      MO_NDEQ MO_NVLD MX_RO MX_RW MX_NDEF MX_NRW SD_NDEF SI_NEXS SI_DUP ED_NDEF ED_NDEQ ED_NVLD EI_NEXS AT_NDEF VA_NSET \
      VA_NVLD VT_NVLD NO_ROOM";
@@ -181,8 +185,7 @@ const UNSOUND: Reply = Reply {
     value: 0,
 };
 
-fn trays_came_with_edition_4() {
-    assert_eq!(chip::EDITION, 4);
+fn orders_and_replies_are_as_in_c() {
     assert_eq!((size_of::<Order>(), size_of::<Reply>()), (16, 8));
     assert_eq!(Reply::default().result(), Ok(0));
     assert_eq!(UNSOUND.result(), by_itself(Refusal::SY_ERR));
@@ -268,13 +271,14 @@ fn unsound_states_are_told_order_by_order() {
 }
 
 fn main() {
+    edition_has_a_number();
     refusals_have_names();
     places_have_names();
     places_are_told();
     listed_operations_have_names();
     short_tables_are_refused();
     cursors_have_names();
-    trays_came_with_edition_4();
+    orders_and_replies_are_as_in_c();
     trays_answer_as_calls();
     rows_may_differ_in_length();
     empty_trays_are_done();

@@ -2,6 +2,7 @@
 // answers every number, one that is no type too.
 pub mod answers;
 pub mod kinds;
+pub mod pairs;
 pub mod parents;
 pub mod shapes;
 pub mod types;
@@ -11,8 +12,8 @@ pub use answers::Name;
 pub use answers::Parent;
 pub use kinds::attribute;
 pub use kinds::attributes;
+pub use pairs::subtype;
 pub use parents::parent;
-pub use parents::subtype;
 pub use shapes::mark_in;
 pub use shapes::shape;
 pub use types::TYPES;

@@ -20,7 +20,8 @@ pub fn parent(t: u32) -> Parent
     }
 }
 
-// The same type, or one whose parent is a subtype (CHIP, dictionary). It ends because a parent's number is lower.
+// The same type, or one whose parent is a subtype (CHIP, dictionary). It ends because a parent's number is lower. No call
+// asks it, since each step takes stack: `pairs::subtype` gives the same.
 pub fn subtype(a: u32, b: u32) -> bool
     ensures { λ r. ⌜ r ≡ spec.subtype a b ⌝ }
 {

@@ -12,6 +12,7 @@ mod printing;
 mod references;
 mod schema_instances;
 mod spreading;
+mod subtypes;
 
 fn main() {
     models::run();
@@ -21,6 +22,7 @@ fn main() {
     references::run();
     access::run();
     deletions::run();
+    subtypes::run();
     places::run();
     events::run();
 }

@@ -5,11 +5,11 @@ use state::refusals;
 use state::state::Event;
 use state::state::Log;
 
-fn text(bytes: &[u8]) {
+pub fn text(bytes: &[u8]) {
     io::write_all(STDOUT_FILENO, bytes);
 }
 
-fn number_after(bytes: &[u8], n: u32) {
+pub fn number_after(bytes: &[u8], n: u32) {
     text(bytes);
     io::print_decimal(STDOUT_FILENO, n as u64);
 }

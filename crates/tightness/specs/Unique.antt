@@ -46,6 +46,7 @@ use Rattle.dictionary.proofs.types.name.Reads as dictionary-types-name
 use Rattle.dictionary.proofs.types.schema.Reads as dictionary-types-schema
 use Rattle.dictionary.proofs.kinds.attributes.Reads as dictionary-kinds-attributes
 use Rattle.dictionary.proofs.kinds.attribute.Reads as dictionary-kinds-attribute
+use Rattle.dictionary.proofs.pairs.subtype.Reads as dictionary-pairs-subtype
 use Rattle.dictionary.proofs.parents.parent.Reads as dictionary-parents-parent
 use Rattle.dictionary.proofs.parents.subtype.Reads as dictionary-parents-subtype
 use Rattle.dictionary.proofs.shapes.shape.Reads as dictionary-shapes-shape
@@ -239,6 +240,9 @@ dictionary-kinds-attributes-one κs a x y s s′ p q = p ∙ sym q
 
 pub dictionary-kinds-attribute-one : (κs : _) (a : _) (x y : _) (s s′ : _) → dictionary-kinds-attribute.Post κs a x s → dictionary-kinds-attribute.Post κs a y s′ → x ≡ y
 dictionary-kinds-attribute-one κs a x y s s′ p q = p ∙ sym q
+
+pub dictionary-pairs-subtype-one : (κs : _) (a : _) (x y : _) (s s′ : _) → dictionary-pairs-subtype.Post κs a x s → dictionary-pairs-subtype.Post κs a y s′ → x ≡ y
+dictionary-pairs-subtype-one κs a x y s s′ p q = p ∙ sym q
 
 pub dictionary-parents-parent-one : (κs : _) (a : _) (x y : _) (s s′ : _) → dictionary-parents-parent.Post κs a x s → dictionary-parents-parent.Post κs a y s′ → x ≡ y
 dictionary-parents-parent-one κs a x y s s′ p q = p ∙ sym q

@@ -1,6 +1,6 @@
 -- The parts of a shape are those that were packed, and what it says of a target and of a header.
 use mathlib.Core.Path.{_≡_, refl, sym, ap, _∙_}
-use mathlib.Core.Bool.{Bool, true, false, cond, not, _&&_, false≢true}
+use mathlib.Core.Bool.{Bool, true, false, cond, _&&_, false≢true}
 use mathlib.Core.Logic.{⊎-elim}
 use Prim.Native.Nat.{ℕ, _*_, _/_, _%_, _^_, _≤_, _<_}
 use native.Mathlib.Omega.{arith}
@@ -8,18 +8,17 @@ use lib.Bits.{bitAnd}
 use lib.Dec.{eqb, ltb}
 use lib.ListN.{length}
 use lib.Pow.{pow-mono, pow-pos}
-use borrow.Author.Tests.{lt-ltb, ltb-true, not-true}
+use borrow.Author.Tests.{lt-ltb, ltb-true}
 use Rattle.dictionary.specs.declared.answers.Attribute.the-variants.{Reference}
 use Rattle.logic.specs.Search.{allB}
-use Rattle.logic.specs.Laws.Search.{all-at}
-use Rattle.logic.specs.Laws.Bools.{decided, fails}
+use Rattle.logic.specs.Laws.Bools.{decided}
 use Rattle.dictionary.specs.Dictionary.{types, isType, isReference, attributesOf, attributeOf, the-table}
 use Rattle.dictionary.specs.Subtype.{subtype}
 use Rattle.dictionary.specs.Quick.References.{noReference, referenceOf, maskBelow, mayName, targetsOf}
 use Rattle.dictionary.specs.Quick.Shapes.{flagOf, packedOf, shapeOf, attributesIn, markIn}
-use Rattle.dictionary.specs.Laws.Types.{of-type}
+use Rattle.dictionary.specs.Laws.Types.{of-pair}
 use Rattle.dictionary.specs.Laws.Attributes.{no-type-attributes, no-type-attribute, attributes-few, reference-type}
-use Rattle.dictionary.specs.Laws.Subtypes.{subtype-type}
+use Rattle.dictionary.specs.Laws.Subtypes.{no-type-below}
 use Rattle.dictionary.specs.Laws.References.{no-type-reference, no-type-targets}
 
 pub no-type-shape : (t : ℕ) → isType t ≡ false → shapeOf t ≡ packedOf 0 noReference 0
@@ -48,25 +47,11 @@ module _ (t : ℕ) where
       let few : length (attributesOf t) < noReference = omega (arith, attributes-few t) in
       rw (lt-ltb (length (attributesOf t)) noReference few) (omega (arith, pow-pos (length (attributesOf t))))
 
--- ---- one computed test of every type and every number below a bound, carried to each pair
-
-abbrev alike : Bool → Bool → Bool
-alike a b = cond a b (not b)
-
-told : (a b : Bool) → alike a b ≡ true → a ≡ b
-told true b e = sym e
-told false b e = sym (not-true b e)
-
-of-pair : (n : ℕ) (f g : ℕ → ℕ → Bool) → allB types (λ t. allB n (λ x. alike (f t x) (g t x))) ≡ true
-    → (t x : ℕ) → isType t ≡ true → x < n → f t x ≡ g t x
-of-pair n f g e t x i l = told (f t x) (g t x) (all-at n (λ x. alike (f t x) (g t x)) (of-type (λ t. allB n (λ x. alike (f t x) (g t x))) e t i) x l)
+-- ---- what is computed for every type with every number below a bound
 
 named-of-type : (t u : ℕ) → isType t ≡ true → u < types → eqb (shapeOf t / 2 ^ u % 2) 1 ≡ mayName (attributeOf t (referenceOf t)) u
 unfolding allB referenceOf maskBelow targetsOf shapeOf subtype the-table
 named-of-type t u i l = of-pair types (λ t u. eqb (shapeOf t / 2 ^ u % 2) 1) (λ t u. mayName (attributeOf t (referenceOf t)) u) refl t u i l
-
-not-named : (u target : ℕ) → isType target ≡ true → isType u ≡ false → subtype u target ≡ false
-not-named u target p q = fails (subtype u target) (λ e. false≢true (sym q ∙ subtype-type u target e ∙ p))
 
 -- the reference may name a type exactly if the shape has its bit
 pub target-of-shape : (t u target : ℕ) → attributeOf t (referenceOf t) ≡ Reference target → (isType u && eqb (shapeOf t / 2 ^ u % 2) 1) ≡ subtype u target
@@ -78,7 +63,8 @@ target-of-shape t u target w = by-cases (isType u) refl
 
     by-cases : (b : Bool) → isType u ≡ b → (b && eqb (shapeOf t / 2 ^ u % 2) 1) ≡ subtype u target
     by-cases true e = rw w at (named-of-type t u typed (ltb-true u types e))
-    by-cases false e = sym (not-named u target (reference-type t (referenceOf t) target w) e)
+    by-cases false e =
+        sym (no-type-below u target e (λ z. false≢true (sym e ∙ ap isType z ∙ reference-type t (referenceOf t) target w)))
 
 -- of the six bits of a header from bit 14 on, the shape has the two that no model of the 64 has and the flags of no attribute
 pub strays-of-shape : (t x : ℕ) → isType t ≡ true → x < 64 → eqb (bitAnd x (shapeOf t / 0x4000)) 0 ≡ (eqb (x % 4) 0 && ltb x (4 * 2 ^ length (attributesOf t)))

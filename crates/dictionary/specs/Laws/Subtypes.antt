@@ -12,9 +12,10 @@ use borrow.Author.Tests.{eq-eqb, ne-eqb, eqb-true}
 use Rattle.dictionary.specs.declared.answers.Parent.{Parent}
 use Rattle.dictionary.specs.declared.answers.Parent.the-variants.{Root, Is}
 use Rattle.dictionary.specs.declared.answers.Attribute.the-variants.{Lacking}
+use Rattle.logic.specs.Laws.Bools.{fails}
 use Rattle.dictionary.specs.Dictionary.{isType, parentOf, schemaOf, above, climbing, climb, attributesOf, attributeOf}
 use Rattle.dictionary.specs.Subtype.{sameOr, subtype, Subtype, same, by-parent}
-use Rattle.dictionary.specs.Laws.Types.{climb-step, parent-lower, child-type, parent-type, parent-schema}
+use Rattle.dictionary.specs.Laws.Types.{no-type-parent, climb-step, parent-lower, child-type, parent-type, parent-schema}
 use Rattle.dictionary.specs.Laws.Attributes.{attribute-there, attribute-count, attribute-inherited}
 
 pub subtype-step : (a b : ℕ) → subtype a b ≡ (eqb a b || above false (λ p. subtype p b) (parentOf a))
@@ -98,3 +99,12 @@ related-attribute (by-parent {a} {p} {b} w s) k h =
 pub subtype-attribute : (a b k : ℕ) → subtype a b ≡ true → (attributeOf b k ≡ Lacking → ⊥)
     → attributeOf a k ≡ attributeOf b k
 subtype-attribute a b k e n = related-attribute (subtype-related a b e) k (attribute-count b k n)
+
+-- a number that is no type is below none but itself, and above none but itself
+
+pub no-type-below : (a b : ℕ) → isType a ≡ false → (a ≡ b → ⊥) → subtype a b ≡ false
+no-type-below a b i n = subtype-root a b n (no-type-parent a i)
+
+pub no-type-above : (a b : ℕ) → isType b ≡ false → (a ≡ b → ⊥) → subtype a b ≡ false
+no-type-above a b i n =
+    fails (subtype a b) (λ e. false≢true (sym (no-type-below a b (subtype-type a b e ∙ i) n) ∙ e))

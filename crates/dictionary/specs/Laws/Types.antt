@@ -1,7 +1,7 @@
 -- What holds of types, their parents and their schemas, and the step from a type to its parent. Each fact about the
--- whole table is one computed test, which `of-type` or `of-parent` carries to each type.
+-- whole table is one computed test, which `of-type`, `of-parent` or `of-pair` carries to each type or pair.
 use mathlib.Core.Path.{_≡_, refl, sym, _∙_, ap}
-use mathlib.Core.Bool.{Bool, true, false}
+use mathlib.Core.Bool.{Bool, true, false, cond, not}
 use mathlib.Core.Logic.{⊎-elim}
 use mathlib.Core.List.{[]}
 use Prim.Native.Nat.{ℕ, zero, suc, _<_, _≤_}
@@ -9,7 +9,7 @@ use native.Mathlib.Nat.{le-refl, lt-of-lt-of-le, le-of-suc-le-suc, not-suc-le-ze
 use native.Mathlib.Omega.{arith}
 use lib.Dec.{ltb, leb, eqb}
 use lib.ListN.{length, List·getD-eq-default}
-use borrow.Author.Tests.{ltb-true, ltb-false, leb-true, eqb-true}
+use borrow.Author.Tests.{ltb-true, ltb-false, leb-true, eqb-true, not-true}
 use Rattle.dictionary.specs.declared.answers.Parent.{Parent}
 use Rattle.dictionary.specs.declared.answers.Parent.the-variants.{Root, Is}
 use Rattle.logic.specs.Search.{allB}
@@ -51,6 +51,21 @@ of-parent f e t p w =
     ⊎-elim (λ i. rw w at (of-type (λ t. above true (f t) (parentOf t)) e t i))
     (λ i. let z : Root ≡ Is p = sym (no-type-parent t i) ∙ w in cc)
     (decided (isType t))
+
+-- a computed test that two tests are alike, carried to each type with each number below a bound
+
+abbrev pub alike : Bool → Bool → Bool
+alike x y = cond x y (not y)
+
+told : (x y : Bool) → alike x y ≡ true → x ≡ y
+told true y e = sym e
+told false y e = sym (not-true y e)
+
+pub of-pair : (n : ℕ) (f g : ℕ → ℕ → Bool) → allB types (λ t. allB n (λ x. alike (f t x) (g t x))) ≡ true
+    → (t x : ℕ) → isType t ≡ true → x < n → f t x ≡ g t x
+of-pair n f g e t x i l =
+    told (f t x) (g t x)
+    (all-at n (λ x. alike (f t x) (g t x)) (of-type (λ t. allB n (λ x. alike (f t x) (g t x))) e t i) x l)
 
 -- a parent's number is lower, and it is a type of the same schema
 
