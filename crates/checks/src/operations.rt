@@ -53,7 +53,8 @@ pub enum Writer {
     Unset,
 }
 
-// A number that no case names is unlisted, and the gate has FN_NAVL for it.
+// A number that no case names is unlisted, and the gate has FN_NAVL for it. From 20 to 45 stand those that need a transaction,
+// with gaps among them. All single numbers are cases of one `match`, so that it is one jump.
 pub fn operation_of(number: u32) -> Operation
     ensures { λ r. ⌜ r ≡ operationOf number ⌝ }
 {
@@ -71,18 +72,6 @@ pub fn operation_of(number: u32) -> Operation
         11 => Operation::InSession(InSession::StartRecording),
         12 => Operation::InSession(InSession::StopRecording),
         13 => Operation::InSession(InSession::StorageFault),
-        46 => Operation::InSession(InSession::IsSubtype),
-        20..=45 => transacted(number),
-        _ => Operation::Unlisted,
-    }
-}
-
-// Those that need a transaction, with the gaps among them.
-fn transacted(number: u32) -> Operation
-    requires { ⌜ (20 ≤ number) × (number ≤ 45) ⌝ }
-    ensures { λ r. ⌜ r ≡ operationOf number ⌝ }
-{
-    match number {
         20 => Operation::Writer(Writer::CreateModel),
         21 => Operation::Writer(Writer::DeleteModel),
         22 => Operation::Reader(Reader::ReadOnlyAccess),
@@ -95,7 +84,9 @@ fn transacted(number: u32) -> Operation
         43 => Operation::Reader(Reader::Test),
         44 => Operation::Writer(Writer::Put),
         45 => Operation::Writer(Writer::Unset),
+        46 => Operation::InSession(InSession::IsSubtype),
         30..=33 => of_schema_instances(number),
+        20..=45 => Operation::Unlisted,
         _ => Operation::Unlisted,
     }
 }

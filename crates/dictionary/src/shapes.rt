@@ -1,7 +1,8 @@
 // The shape of a type in one word, so that the test of an instance asks the dictionary once. Each part lies where it is asked
-// for, so that none is masked there: bit u for a type u that the reference may name, from bit 12 on how many attributes there
-// are, and from bit 14 on what a header must not have where it has that (a model past the last, which no type allows, and a
-// flag of no attribute). On top stands the flag of the reference, 2^20 times what a header has for it.
+// for, so that none is masked there: bit 1 + u, as a header has its type, for a type u that the reference may name, from bit 12
+// on how many attributes there are, and from bit 14 on what a header must not have where it has that (a model past the last,
+// which no type allows, and a flag of no attribute). On top stands the flag of the reference, 2^20 times what a header has for
+// it.
 ghost use mathlib.Core.Path.{_≡_};
 ghost use Rattle.dictionary.specs.Quick.Shapes.{flagOf, packedOf, shapeOf, attributesIn, markIn};
 
@@ -19,7 +20,7 @@ fn flag(k: u32) -> u64
 fn packed(attributes: u32, reference: u32, targets: u32) -> u64
     ensures { λ r. ⌜ r ≡ packedOf attributes reference targets ⌝ }
 {
-    (targets % 0x400) as u64
+    2 * ((targets % 0x400) as u64)
         + 0x1000 * ((attributes % 4) as u64)
         + 0xc000
         + 0x1_0000 * (16 - flag(attributes))

@@ -3,3 +3,4 @@ pub mod Checks
 pub mod Sound
 pub mod Range
 pub mod Answers
+pub mod Served

@@ -1,18 +1,25 @@
 // One call. `call` judges whatever comes in; `core` is the machine without that judgement, for a caller whose state is
 // proved sound.
 ghost use mathlib.Core.Path.{_≡_};
+ghost use Rattle.checks.specs.Operations.{operationOf};
 ghost use Rattle.session.specs.Effects.{workingAfter, keptAfter};
+ghost use Rattle.session.specs.Rows.{performed};
+ghost use Rattle.session.specs.Quick.Served.{serving, servedBy};
 ghost use Rattle.session.specs.Sound.{sound as soundState};
 ghost use Rattle.session.specs.Step.{outcome, core as coreOf, judged as judgedOf, step};
+use crate::answers::carried;
 use crate::answers::finished;
+use crate::answers::log_stays;
 use crate::answers::unsound;
 use crate::effects::Tables;
 use crate::perform::perform;
 use crate::sound::sound_session;
 use checks::operations::operation_of;
+use state::refusals;
 use state::state::Answer;
 use state::state::RW;
 use state::state::Session;
+use state::state::State;
 use state::state::under;
 use tables::changes::apply;
 use tables::sound::sound_tables;
@@ -30,6 +37,45 @@ fn settle(tables: Tables, working: &mut [u64], kept: &mut [u64])
     }
 }
 
+// What an operation leaves but the tables and the log.
+pub struct Served {
+    pub refusal: u32,
+    pub value: u32,
+    pub state: State,
+}
+
+// An operation on a sound state. Of a refused one there is nothing to settle.
+pub fn serve(
+    op: u32,
+    a: u32,
+    b: u32,
+    c: u32,
+    s: State,
+    working: &mut [u64],
+    kept: &mut [u64],
+) -> Served
+    ensures { λ r. ⌜ serving r (now (working .exit)) (now (kept .exit)) ≡ servedBy (performed (operationOf op) a b c s (now (working .entry))) (now (working .entry)) (now (kept .entry)) ⌝ }
+{
+    let e = perform(operation_of(op), a, b, c, s, working);
+    let refusal = e.refusal;
+    let state = e.state;
+    if refusal != refusals::DONE {
+        return Served {
+            refusal,
+            value: 0,
+            state,
+        };
+    }
+    let tables = e.tables;
+    settle(tables, working, kept);
+    Served {
+        refusal: refusals::DONE,
+        value: e.value,
+        state,
+    }
+}
+
+// Where the log stays, as it nearly always does, the answer is made at once: so the compiler copies the events once less.
 pub fn core(
     op: u32,
     a: u32,
@@ -41,11 +87,13 @@ pub fn core(
 ) -> Answer
     ensures { λ r. ⌜ outcome r (now (working .exit)) (now (kept .exit)) ≡ coreOf op a b c x (now (working .entry)) (now (kept .entry)) ⌝ }
 {
-    let state = x.state;
-    let e = perform(operation_of(op), a, b, c, state, working);
-    let tables = e.tables;
-    settle(tables, working, kept);
-    finished(op, x, e.refusal, e.value, e.state)
+    let s = x.state;
+    let r = serve(op, a, b, c, s, working, kept);
+    let state = r.state;
+    if log_stays(r.refusal, state) {
+        return carried(x, r.value, state);
+    }
+    finished(op, x, r.refusal, r.value, state)
 }
 
 pub fn is_sound(x: Session, working: &[u64], kept: &[u64]) -> bool

@@ -1,5 +1,5 @@
 // The session machine: a row for each operation, its checks and its effect, and the one call.
-mod answers;
+pub mod answers;
 pub mod call;
 mod effects;
 mod in_session;

@@ -3,15 +3,15 @@ ghost use mathlib.Core.Path.{_≡_};
 ghost use Rattle.words.specs.Sets.{sizeOf};
 ghost use Rattle.checks.specs.Checks.{firstOf};
 ghost use Rattle.session.specs.Effects.{does};
-ghost use Rattle.session.specs.Rows.{creating as creatingOf, writing as writingOf, referring as referringOf, writerRow};
-ghost use Rattle.checks.specs.Quick.Known.{known};
-ghost use Rattle.session.specs.Quick.Rows.{rowDone};
+ghost use Rattle.session.specs.Rows.{creating as creatingOf, referring, writerRow};
+ghost use Rattle.session.specs.Quick.Rows.{rowDone, putting as puttingOf};
 use crate::effects::Effect;
 use crate::effects::Tables;
 use crate::effects::changed;
 use crate::effects::created;
 use crate::effects::done;
 use crate::effects::moved;
+use crate::effects::refused;
 use crate::effects::unless;
 use checks::conditions::apart;
 use checks::conditions::lacks_attribute;
@@ -29,6 +29,7 @@ use checks::shared::in_reach;
 use checks::shared::writable;
 use dictionary::Attribute;
 use state::refusals;
+use state::refusals::on;
 use state::state::State;
 use state::state::with_access;
 use tables::changes::Change;
@@ -282,64 +283,46 @@ fn delete_instance(a: u32, s: State, w: &[u64]) -> Effect
     )
 }
 
-// Of put and unset, and then the rest.
-fn writing(header: u64, k: u32, s: State, rest: u32) -> u32
-    ensures { λ r. ⌜ r ≡ firstOf (writingOf header k s (known rest)) ⌝ }
-{
-    writable(
-        header,
-        refusals::EI_NEXS,
-        model_in(header),
-        s,
-        first(lacks_attribute(header, k), refusals::AT_NDEF, 2, rest),
-    )
-}
-
-// Of a value v that is put as a reference to type `target`, in an instance of model m.
+// Of a value v that is put as a reference to type `target`, in an instance of model m. With a return at each, as in the gate.
 fn reference(target: u32, m: u32, v: u32, w: &[u64]) -> u32
-    ensures { λ r. ⌜ r ≡ firstOf (referringOf (Attribute.Reference target) m v (now (w .entry))) ⌝ }
+    ensures { λ r. ⌜ r ≡ firstOf (referring (Attribute.Reference target) m v (now (w .entry))) ⌝ }
 {
     let it = header_at(w, v);
-    first(
-        missing(it),
-        refusals::VA_NVLD,
-        3,
-        first(
-            wrong_type(it, target),
-            refusals::VT_NVLD,
-            3,
-            first(
-                apart(w, m, model_in(it)),
-                refusals::MO_NVLD,
-                3,
-                refusals::DONE,
-            ),
-        ),
-    )
+    if missing(it) {
+        return on(refusals::VA_NVLD, 3);
+    }
+    if wrong_type(it, target) {
+        return on(refusals::VT_NVLD, 3);
+    }
+    if apart(w, m, model_in(it)) {
+        return on(refusals::MO_NVLD, 3);
+    }
+    refusals::DONE
 }
 
-// Only a reference asks more of its value.
-fn referring(attribute: Attribute, m: u32, v: u32, w: &[u64]) -> u32
-    ensures { λ r. ⌜ r ≡ firstOf (referringOf attribute m v (now (w .entry))) ⌝ }
+// Of a value v that is put as an attribute of this kind, in an instance of model m. Only a reference asks more of it.
+fn putting(attribute: Attribute, m: u32, v: u32, w: &[u64]) -> u32
+    ensures { λ r. ⌜ r ≡ firstOf (puttingOf attribute m v (now (w .entry))) ⌝ }
 {
     match attribute {
-        Attribute::Lacking => refusals::DONE,
+        Attribute::Lacking => on(refusals::AT_NDEF, 2),
         Attribute::Whole => refusals::DONE,
         Attribute::Reference(target) => reference(target, m, v, w),
     }
 }
 
+// The attribute is asked for where the instance may be written, and once for all that hangs on it.
 fn put(i: u32, k: u32, v: u32, s: State, w: &[u64]) -> Effect
     ensures { λ r. ⌜ r ≡ rowDone s (writerRow Writer.Put i k v s (now (w .entry))) ⌝ }
 {
     let it = header_at(w, i);
+    let m = model_in(it);
+    let refusal = writable(it, refusals::EI_NEXS, m, s, refusals::DONE);
+    if refusal != refusals::DONE {
+        return refused(refusal, s);
+    }
     unless(
-        writing(
-            it,
-            k,
-            s,
-            referring(dictionary::attribute(type_in(it), k), model_in(it), v, w),
-        ),
+        putting(dictionary::attribute(type_in(it), k), m, v, w),
         s,
         changed(s, Change::Put(i, k, v)),
     )
@@ -348,8 +331,15 @@ fn put(i: u32, k: u32, v: u32, s: State, w: &[u64]) -> Effect
 fn unset(i: u32, k: u32, s: State, w: &[u64]) -> Effect
     ensures { λ r. ⌜ r ≡ rowDone s (writerRow Writer.Unset i k 0 s (now (w .entry))) ⌝ }
 {
+    let it = header_at(w, i);
     unless(
-        writing(header_at(w, i), k, s, refusals::DONE),
+        writable(
+            it,
+            refusals::EI_NEXS,
+            model_in(it),
+            s,
+            first(lacks_attribute(it, k), refusals::AT_NDEF, 2, refusals::DONE),
+        ),
         s,
         changed(s, Change::Unset(i, k)),
     )

@@ -6,12 +6,12 @@ ghost use lib.ListN.{length};
 ghost use Rattle.words.specs.Layout.{words};
 ghost use Rattle.tables.specs.Quick.Values.{straysIn, unsetOf, wordsFit, targetFits, referenceFits};
 use super::pointers::SECOND;
-use dictionary::TYPES;
 use dictionary::mark_in;
 use words::fields::is_flagged;
 use words::layout::Kind;
 use words::layout::count;
 use words::layout::place;
+use words::sets::BITS;
 
 // What a header of this shape must not have (CHIP, sound tables): a model past the last, a flag of no attribute, anything above
 // the flags. The shape's lower bits are shifted out, and its mark lies where any bit of a header is one too many.
@@ -37,8 +37,9 @@ pub fn words_fit(shape: u64, h: u64, v0: u64, v1: u64, v2: u64, v3: u64) -> bool
     left | ((v0 | v1 | v2) >> 32) | strays(shape, h) == 0
 }
 
-// A reference that is set leads to a live instance of a type that it may name (CHIP, sound tables). An instance with no type
-// is none, and a free one has none.
+// A reference that is set leads to a live instance of a type that it may name (CHIP, sound tables): the low bits of its header
+// are the bit of its type in a shape, and those of a free one the bit that no shape has. A header of none of the types may pass
+// here: it is found out where it stands.
 fn is_target(t: &[u64], shape: u64, v: u64) -> bool
     requires { ⌜ words ≤ length (now t) ⌝ }
     ensures { λ r. ⌜ r ≡ targetFits (now (t .entry)) shape v ⌝ }
@@ -46,14 +47,7 @@ fn is_target(t: &[u64], shape: u64, v: u64) -> bool
     if (count(Kind::Instance) as u64) <= v {
         return false;
     }
-    let low = t[place(Kind::Instance, v as u32)] % 256;
-    if low == 0 {
-        return false;
-    }
-    if (TYPES as u64) < low {
-        return false;
-    }
-    (shape >> (low - 1)) % 2 == 1
+    (shape >> (t[place(Kind::Instance, v as u32)] % (BITS as u64))) % 2 == 1
 }
 
 // The reference of the instance, if its type has one and it is set: it stands second or third.

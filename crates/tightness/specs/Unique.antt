@@ -4,6 +4,7 @@
 use mathlib.Core.Path.{_≡_, sym, _∙_}
 use denote.Ref.{now}
 use Rattle.session.specs.Step.{outcome}
+use Rattle.session.specs.Quick.Served.{serving}
 use Rattle.words.proofs.layout.base.Reads as words-layout-base
 use Rattle.words.proofs.layout.stride.Reads as words-layout-stride
 use Rattle.words.proofs.layout.count.Reads as words-layout-count
@@ -100,6 +101,11 @@ use Rattle.checks.proofs.shared.in_reach.Reads as checks-shared-in-reach
 use Rattle.checks.proofs.shared.writable.Reads as checks-shared-writable
 use Rattle.checks.proofs.shared.accessed.Reads as checks-shared-accessed
 use Rattle.checks.proofs.gate.gate.Reads as checks-gate-gate
+use Rattle.session.proofs.answers.unsound.Reads as session-answers-unsound
+use Rattle.session.proofs.answers.log_stays.Reads as session-answers-log-stays
+use Rattle.session.proofs.answers.carried.Reads as session-answers-carried
+use Rattle.session.proofs.answers.finished.Reads as session-answers-finished
+use Rattle.session.proofs.call.serve.Reads as session-call-serve
 use Rattle.session.proofs.call.core.Reads as session-call-core
 use Rattle.session.proofs.call.is_sound.Reads as session-call-is-sound
 use Rattle.session.proofs.call.judged.Reads as session-call-judged
@@ -410,6 +416,22 @@ pub checks-gate-gate-one : (κs : _) (a : _) (x y : _) (s s′ : _) → checks-g
 checks-gate-gate-one κs a x y s s′ p q = p ∙ sym q
 
 -- ---- session
+
+pub session-answers-unsound-one : (κs : _) (a : _) (x y : _) (s s′ : _) → session-answers-unsound.Post κs a x s → session-answers-unsound.Post κs a y s′ → x ≡ y
+session-answers-unsound-one κs a x y s s′ p q = p ∙ sym q
+
+pub session-answers-log-stays-one : (κs : _) (a : _) (x y : _) (s s′ : _) → session-answers-log-stays.Post κs a x s → session-answers-log-stays.Post κs a y s′ → x ≡ y
+session-answers-log-stays-one κs a x y s s′ p q = p ∙ sym q
+
+pub session-answers-carried-one : (κs : _) (a : _) (x y : _) (s s′ : _) → session-answers-carried.Post κs a x s → session-answers-carried.Post κs a y s′ → x ≡ y
+session-answers-carried-one κs a x y s s′ p q = p ∙ sym q
+
+pub session-answers-finished-one : (κs : _) (a : _) (x y : _) (s s′ : _) → session-answers-finished.Post κs a x s → session-answers-finished.Post κs a y s′ → x ≡ y
+session-answers-finished-one κs a x y s s′ p q = p ∙ sym q
+
+pub session-call-serve-one : (κs : _) (a : _) (x y : _) (s s′ : _) → session-call-serve.Post κs a x s → session-call-serve.Post κs a y s′
+    → serving x (now (s .1 .1 .1 .1 .1 .0)) (now (s .1 .1 .1 .1 .1 .1 .0)) ≡ serving y (now (s′ .1 .1 .1 .1 .1 .0)) (now (s′ .1 .1 .1 .1 .1 .1 .0))
+session-call-serve-one κs a x y s s′ p q = p ∙ sym q
 
 pub session-call-core-one : (κs : _) (a : _) (x y : _) (s s′ : _) → session-call-core.Post κs a x s → session-call-core.Post κs a y s′
     → outcome x (now (s .1 .1 .1 .1 .1 .0)) (now (s .1 .1 .1 .1 .1 .1 .0)) ≡ outcome y (now (s′ .1 .1 .1 .1 .1 .0)) (now (s′ .1 .1 .1 .1 .1 .1 .0))

@@ -2,7 +2,7 @@
 use mathlib.Core.Path.{_≡_, refl, sym, ap, _∙_}
 use mathlib.Core.Bool.{Bool, true, false, cond, _&&_, false≢true}
 use mathlib.Core.Logic.{⊎-elim}
-use Prim.Native.Nat.{ℕ, _*_, _/_, _%_, _^_, _≤_, _<_}
+use Prim.Native.Nat.{ℕ, suc, _*_, _/_, _%_, _^_, _≤_, _<_}
 use native.Mathlib.Omega.{arith}
 use lib.Bits.{bitAnd}
 use lib.Dec.{eqb, ltb}
@@ -17,8 +17,7 @@ use Rattle.dictionary.specs.Subtype.{subtype}
 use Rattle.dictionary.specs.Quick.References.{noReference, referenceOf, maskBelow, mayName, targetsOf}
 use Rattle.dictionary.specs.Quick.Shapes.{flagOf, packedOf, shapeOf, attributesIn, markIn}
 use Rattle.dictionary.specs.Laws.Types.{of-pair}
-use Rattle.dictionary.specs.Laws.Attributes.{no-type-attributes, no-type-attribute, attributes-few, reference-type}
-use Rattle.dictionary.specs.Laws.Subtypes.{no-type-below}
+use Rattle.dictionary.specs.Laws.Attributes.{no-type-attributes, no-type-attribute, attributes-few}
 use Rattle.dictionary.specs.Laws.References.{no-type-reference, no-type-targets}
 
 pub no-type-shape : (t : ℕ) → isType t ≡ false → shapeOf t ≡ packedOf 0 noReference 0
@@ -49,22 +48,22 @@ module _ (t : ℕ) where
 
 -- ---- what is computed for every type with every number below a bound
 
-named-of-type : (t u : ℕ) → isType t ≡ true → u < types → eqb (shapeOf t / 2 ^ u % 2) 1 ≡ mayName (attributeOf t (referenceOf t)) u
+named-of-type : (t u : ℕ) → isType t ≡ true → u < types → eqb (shapeOf t / 2 ^ suc u % 2) 1 ≡ mayName (attributeOf t (referenceOf t)) u
 unfolding allB referenceOf maskBelow targetsOf shapeOf subtype the-table
-named-of-type t u i l = of-pair types (λ t u. eqb (shapeOf t / 2 ^ u % 2) 1) (λ t u. mayName (attributeOf t (referenceOf t)) u) refl t u i l
+named-of-type t u i l = of-pair types (λ t u. eqb (shapeOf t / 2 ^ suc u % 2) 1) (λ t u. mayName (attributeOf t (referenceOf t)) u) refl t u i l
 
 -- the reference may name a type exactly if the shape has its bit
-pub target-of-shape : (t u target : ℕ) → attributeOf t (referenceOf t) ≡ Reference target → (isType u && eqb (shapeOf t / 2 ^ u % 2) 1) ≡ subtype u target
+pub target-of-shape : (t u target : ℕ) → attributeOf t (referenceOf t) ≡ Reference target → isType u ≡ true → eqb (shapeOf t / 2 ^ suc u % 2) 1 ≡ subtype u target
 unfolding isType
-target-of-shape t u target w = by-cases (isType u) refl
+target-of-shape t u target w e = rw w at (named-of-type t u typed (ltb-true u types e))
   where
     typed : isType t ≡ true
     typed = ⊎-elim (λ i. i) (λ i. absurd (false≢true (ap isReference (sym (no-type-attribute t (referenceOf t) i) ∙ w)))) (decided (isType t))
 
-    by-cases : (b : Bool) → isType u ≡ b → (b && eqb (shapeOf t / 2 ^ u % 2) 1) ≡ subtype u target
-    by-cases true e = rw w at (named-of-type t u typed (ltb-true u types e))
-    by-cases false e =
-        sym (no-type-below u target e (λ z. false≢true (sym e ∙ ap isType z ∙ reference-type t (referenceOf t) target w)))
+-- no type's bit is the lowest
+pub shape-even : (t : ℕ) → shapeOf t % 2 ≡ 0
+unfolding shapeOf
+shape-even t = omega arith
 
 -- of the six bits of a header from bit 14 on, the shape has the two that no model of the 64 has and the flags of no attribute
 pub strays-of-shape : (t x : ℕ) → isType t ≡ true → x < 64 → eqb (bitAnd x (shapeOf t / 0x4000)) 0 ≡ (eqb (x % 4) 0 && ltb x (4 * 2 ^ length (attributesOf t)))

@@ -13,7 +13,7 @@ flagOf k = cond (ltb k noReference) (2 ^ k) 0
 
 -- with room for three attributes and ten types
 abbrev pub packedOf : ℕ → ℕ → ℕ → ℕ
-packedOf attributes reference targets = targets % 0x400 + 0x1000 * (attributes % 4) + 0xc000 + 0x1_0000 * (16 - flagOf attributes) + 0x10_0000_0000 * flagOf reference
+packedOf attributes reference targets = 2 * (targets % 0x400) + 0x1000 * (attributes % 4) + 0xc000 + 0x1_0000 * (16 - flagOf attributes) + 0x10_0000_0000 * flagOf reference
 
 unfoldable pub shapeOf : ℕ → ℕ
 shapeOf t = packedOf (length (attributesOf t)) (referenceOf t) (targetsOf t)

@@ -24,12 +24,12 @@ use Rattle.words.specs.Laws.Fields.{Header, flag-of-flags}
 use Rattle.words.specs.Laws.Entries.{entry-test}
 use Rattle.dictionary.specs.declared.answers.Attribute.{Attribute}
 use Rattle.dictionary.specs.declared.answers.Attribute.the-variants.{Lacking, Whole, Reference}
-use Rattle.dictionary.specs.Dictionary.{isType, schemaOf, lacks, isReference, attributesOf, attributeOf}
+use Rattle.dictionary.specs.Dictionary.{types, isType, schemaOf, lacks, isReference, attributesOf, attributeOf, the-table}
 use Rattle.dictionary.specs.Laws.Attributes.{attribute-lacks, attributes-few}
 use Rattle.dictionary.specs.Quick.References.{referenceOf}
 use Rattle.dictionary.specs.Quick.Shapes.{shapeOf, markIn}
 use Rattle.dictionary.specs.Laws.References.{reference-other, reference-is}
-use Rattle.dictionary.specs.Laws.Shapes.{target-of-shape, strays-of-shape}
+use Rattle.dictionary.specs.Laws.Shapes.{target-of-shape, shape-even, strays-of-shape}
 use Rattle.dictionary.specs.Subtype.{subtype}
 use Rattle.tables.specs.declared.live.Live.{Live}
 use Rattle.tables.specs.View.{isLive, labelAt, headerAt, typeAt, valueAt}
@@ -230,16 +230,27 @@ names-right t Lacking v e = refl
 names-right t Whole v e = refl
 names-right t (Reference target) v e = absurd (true≢false e)
 
--- every live instance has a type: then a target is told by its type alone
-abbrev AllTyped : List ℕ → Type 0
-AllTyped t = (v : ℕ) → isLive t Instance v ≡ true → headerAt t v % 256 ≡ 0 → ⊥
+-- a header of one of the types; every live instance has such a one: then a target is told by its type alone
+abbrev Typed : ℕ → Type 0
+Typed h = (h % 256 ≡ 0 → ⊥) × (isType (typeIn h) ≡ true)
 
-live-typed : (t : List ℕ) → AllTyped t → (v : ℕ) → isLive t Instance v ≡ not (eqb (headerAt t v % 256) 0)
-live-typed t typed v = by-cases (eqb (headerAt t v) 0) refl
+abbrev AllTyped : List ℕ → Type 0
+AllTyped t = (v : ℕ) → isLive t Instance v ≡ true → Typed (headerAt t v)
+
+-- its lowest bits are its type's bit in a shape
+type-bit : (h : ℕ) → Typed h → h % bits ≡ suc (typeIn h)
+unfolding the-table
+type-bit h typed =
+    let below : typeIn h < types = ltb-true (typeIn h) types (typed .1) in
+    omega (arith, typed .0)
+
+typed-test : (h : ℕ) → not (eqb (h % 256) 0 || not (isType (typeIn h))) ≡ true → Typed h
+typed-test h e = by-cases (eqb (h % 256) 0) (isType (typeIn h)) refl refl e
   where
-    by-cases : (b : Bool) → eqb (headerAt t v) 0 ≡ b → not b ≡ not (eqb (headerAt t v % 256) 0)
-    by-cases true e = sym (ap (λ (h : ℕ). not (eqb (h % 256) 0)) (eqb-true (headerAt t v) 0 e))
-    by-cases false e = ap not (sym (ne-eqb (headerAt t v % 256) 0 (typed v (ap not e))))
+    by-cases : (a b : Bool) → eqb (h % 256) 0 ≡ a → isType (typeIn h) ≡ b → not (a || not b) ≡ true → Typed h
+    by-cases true b p q e = absurd (false≢true e)
+    by-cases false false p q e = absurd (false≢true e)
+    by-cases false true p q e = (eqb-false (h % 256) 0 p, q)
 
 module _ (t : List ℕ) (all-typed : AllTyped t) (type h : ℕ) (value : ℕ → ℕ) where
   abbrev asked : ℕ → Bool
@@ -251,9 +262,16 @@ module _ (t : List ℕ) (all-typed : AllTyped t) (type h : ℕ) (value : ℕ →
   target-asked : (v : ℕ) (a : Attribute) → attributeOf type (referenceOf type) ≡ a → isReference a ≡ true → namesRight t a v ≡ targetFits t (shapeOf type) v
   target-asked v Lacking w e = absurd (false≢true e)
   target-asked v Whole w e = absurd (false≢true e)
-  target-asked v (Reference target) w e =
-      ap (λ (b : Bool). b && subtype (typeAt t v) target) (live-typed t all-typed v)
-      ∙ ap (λ (b : Bool). not (eqb (headerAt t v % 256) 0) && b) (sym (target-of-shape type (typeAt t v) target w))
+  target-asked v (Reference target) w e = by-cases (eqb (headerAt t v) 0) refl
+    where
+      by-cases : (free : Bool) → eqb (headerAt t v) 0 ≡ free → (not free && subtype (typeAt t v) target) ≡ targetFits t (shapeOf type) v
+      by-cases false live =
+          let typed = all-typed v (ap not live) in
+          sym (target-of-shape type (typeAt t v) target w (typed .1)) ∙ ap (has (shapeOf type)) (sym (type-bit (headerAt t v) typed))
+          ∙ ap (λ (b : Bool). b && has (shapeOf type) (headerAt t v % bits)) (sym (lt-ltb v (countOf Instance) (live-below t Instance v (ap not live))))
+      by-cases true free =
+          sym (and-ended (ltb v (countOf Instance)) (has (shapeOf type) (headerAt t v % bits))
+          (ap (λ (h : ℕ). has (shapeOf type) (h % bits)) (eqb-true (headerAt t v) 0 free) ∙ ne-eqb (bitOf (shapeOf type) 0) 1 (λ z. omega (arith, z, shape-even type))))
 
   reference-asked : allB values asked ≡ (not (flagged h (referenceOf type)) || targetFits t (shapeOf type) (value (referenceOf type)))
   reference-asked = by-cases (decLt (referenceOf type) values)
@@ -340,16 +358,18 @@ module _ (t : List ℕ) where
   instance-by-parts typed i = ap (cond (freeAt t Instance i) (allB values (λ k. eqb (valueAt t i k) 0))) (live-by-parts t typed (headerAt t i) (λ k. valueAt t i k))
 
   typed-fits : allB (countOf Instance) (instanceFits t (liveIn t Model)) ≡ true → AllTyped t
-  typed-fits e v live z =
-      false≢true (rw (not-true (freeAt t Instance v) live, z) at (all-at (countOf Instance) (instanceFits t (liveIn t Model)) e v (live-below t Instance v live)))
+  typed-fits e v live =
+      typed-test (headerAt t v)
+      (and-left _ _ (and-left _ _ (and-left _ _ (rw (not-true (freeAt t Instance v) live) at (all-at (countOf Instance) (instanceFits t (liveIn t Model)) e v (live-below t Instance v live))))))
 
   typed-sound : allB (countOf Instance) (soundInstance t) ≡ true → AllTyped t
   unfolding soundInstance
-  typed-sound e v live z =
+  typed-sound e v live =
       let sound = rw (not-true (freeAt t Instance v) live) at (all-at (countOf Instance) (soundInstance t) e v (live-below t Instance v live)) in
-      omega (arith, sound-header-test t (headerAt t v) .holds (and-left (soundHeader t (headerAt t v)) _ sound) .header .typed)
+      let header = sound-header-test t (headerAt t v) .holds (and-left (soundHeader t (headerAt t v)) _ sound) in
+      ((λ z. omega (arith, header .header .typed)), header .type)
 
-  -- all fit exactly if all are sound: either way each of them has a type
+  -- all fit exactly if all are sound: either way each of them has one of the types
   pub instances-by-parts : (live : Live) → live ≡ liveIn t Model → allB (countOf Instance) (instanceFits t live) ≡ soundInstances t
   instances-by-parts live e = rw e (same-test _ _ (record { holds = λ f. sym (exact (typed-fits f)) ∙ f; passes = λ s. exact (typed-sound s) ∙ s }) (itself (soundInstances t)))
     where

@@ -6,14 +6,15 @@ use mathlib.Core.List.{List}
 use lib.Bits.{bitAnd, bitOr}
 use lib.Dec.{eqb, ltb}
 use Rattle.words.specs.declared.layout.Kind.the-variants.{Instance}
-use Rattle.words.specs.Sets.{has}
+use Rattle.words.specs.Layout.{countOf}
+use Rattle.words.specs.Sets.{bits, has}
 use Rattle.words.specs.Fields.{typeIn, values, flagged}
 use Rattle.words.specs.Entries.{freeAt}
 use Rattle.logic.specs.Search.{allB}
 use Rattle.dictionary.specs.Dictionary.{isType}
 use Rattle.dictionary.specs.Quick.Shapes.{shapeOf, markIn}
 use Rattle.tables.specs.declared.live.Live.{Live}
-use Rattle.tables.specs.View.{headerAt, typeAt, valueAt}
+use Rattle.tables.specs.View.{headerAt, valueAt}
 use Rattle.tables.specs.Quick.Live.{modelFits}
 use Rattle.tables.specs.Quick.Pointers.{second}
 
@@ -33,9 +34,9 @@ unsetOf h k v = cond (flagged h k) 0 v
 abbrev pub wordsFit : ℕ → ℕ → ℕ → ℕ → ℕ → ℕ → Bool
 wordsFit shape h v0 v1 v2 v3 = eqb (straysIn shape h) 0 && wordFits (flagged h 0) v0 && wordFits (flagged h 1) v1 && wordFits (flagged h 2) v2 && eqb v3 0
 
--- an instance that has a type, and one that the reference may name
+-- an instance of a type that the reference may name; a free one has bit 0, which no shape has
 abbrev pub targetFits : List ℕ → ℕ → ℕ → Bool
-targetFits t shape v = not (eqb (headerAt t v % 256) 0) && (isType (typeAt t v) && has shape (typeAt t v))
+targetFits t shape v = ltb v (countOf Instance) && has shape (headerAt t v % bits)
 
 -- the reference, if it is set: the second attribute or the third
 abbrev pub referenceFits : List ℕ → ℕ → ℕ → ℕ → ℕ → Bool
@@ -46,8 +47,8 @@ abbrev pub liveFits : List ℕ → Live → ℕ → ℕ → ℕ → ℕ → ℕ 
 liveFits t live h v0 v1 v2 v3 =
     not (eqb (h % 256) 0 || not (isType (typeIn h))) && modelFits live (typeIn h) h && wordsFit (shapeOf (typeIn h)) h v0 v1 v2 v3 && referenceFits t (shapeOf (typeIn h)) h v1 v2
 
--- Exact over all instances alone (`instances-by-parts`): a reference to an instance with no type does not fit, where `soundInstance`
--- takes that for one of type 0.
+-- Exact over all instances alone (`instances-by-parts`): of a reference to an instance that has none of the types anything is
+-- said, but there that instance does not fit.
 abbrev pub instanceFits : List ℕ → Live → ℕ → Bool
 instanceFits t live i =
     cond (freeAt t Instance i)

@@ -1,19 +1,28 @@
--- Each single number is a row of the list. The default is below the list's gap or past its end.
-use lib.Arith.{lt-of-le-ne}
-use mathlib.Core.Path.{sym, ap, refl}
-use Prim.Native.Nat.{ℕ}
+-- Each single number is a row of the list. A number of no case is below, between or past those of the list.
+use mathlib.Core.Path.{_≡_, refl, sym, ap}
+use mathlib.Core.Bool.{Bool, false, _&&_, _||_}
 use mathlib.Core.List.{List, [], _∷_}
+use Prim.Native.Nat.{ℕ}
 use native.Mathlib.Omega.{arith}
-use Rattle.dictionary.proofs.Arms.{among, none-among}
-use Rattle.logic.specs.Search.{allB}
+use lib.Dec.{leb}
+use borrow.Author.Tests.{lt-leb}
+use Rattle.logic.specs.Search.{allIn}
+use Rattle.logic.specs.Laws.Bools.{and-ended}
+use Rattle.dictionary.proofs.Arms.{NoneOf, among, none-among}
+use Rattle.checks.specs.declared.operations.Operation.the-variants.{Unlisted}
 use Rattle.checks.specs.Operations.{operationOf}
-use Rattle.checks.specs.Laws.Operations.{the-list, past-the-list, between}
+use Rattle.checks.specs.Laws.Operations.{the-list, unlisted}
 use Rattle.checks.proofs.operations.operation_of.Statement.{statement}
 use Rattle.checks.proofs.operations.operation_of.Tie as tie
 
 -- the single numbers of the `match`, the last first
 abbrev keys : List ℕ
-keys = 46 ∷ 13 ∷ 12 ∷ 11 ∷ 10 ∷ 9 ∷ 8 ∷ 7 ∷ 6 ∷ 5 ∷ 4 ∷ 3 ∷ 2 ∷ 1 ∷ []
+keys = 46 ∷ 45 ∷ 44 ∷ 43 ∷ 42 ∷ 41 ∷ 40 ∷ 25 ∷ 24 ∷ 23 ∷ 22 ∷ 21 ∷ 20 ∷ 13 ∷ 12 ∷ 11 ∷ 10 ∷ 9 ∷ 8 ∷ 7 ∷ 6 ∷ 5 ∷ 4 ∷ 3 ∷ 2 ∷ 1 ∷ []
+
+-- where a number is none of them and not from 30 to 33
+outside : (n : ℕ) → NoneOf keys n → (leb 30 n && leb n 33) ≡ false → operationOf n ≡ Unlisted
+unfolding the-list allIn among
+outside n none range = unlisted (λ i. among keys i || (leb 30 i && leb i 33)) refl n (rw (none-among keys n none) range)
 
 returns : tie.Need-returns
 unfolding the-list
@@ -72,14 +81,77 @@ unfolding the-list
 returns-14 c = sym (ap operationOf (c .match .keys14))
 
 returns-15 : tie.Need-returns-15
-returns-15 c = c .transacted .ensures
+unfolding the-list
+returns-15 c = sym (ap operationOf (c .match .keys15))
 
 returns-16 : tie.Need-returns-16
-unfolding the-list allB among
-returns-16 c = sym (between 20 (among keys) refl (c .before .before .args .number) (c .if1 .taken) (none-among keys (c .before .before .args .number) (c .before .match .rest)))
+unfolding the-list
+returns-16 c = sym (ap operationOf (c .match .keys16))
 
 returns-17 : tie.Need-returns-17
-returns-17 c = sym (past-the-list (c .before .before .before .args .number) (lt-of-le-ne (c .if2 .left) (λ e. c .before .before .match .rest .1 (sym e))))
+unfolding the-list
+returns-17 c = sym (ap operationOf (c .match .keys17))
+
+returns-18 : tie.Need-returns-18
+unfolding the-list
+returns-18 c = sym (ap operationOf (c .match .keys18))
+
+returns-19 : tie.Need-returns-19
+unfolding the-list
+returns-19 c = sym (ap operationOf (c .match .keys19))
+
+returns-20 : tie.Need-returns-20
+unfolding the-list
+returns-20 c = sym (ap operationOf (c .match .keys20))
+
+returns-21 : tie.Need-returns-21
+unfolding the-list
+returns-21 c = sym (ap operationOf (c .match .keys21))
+
+returns-22 : tie.Need-returns-22
+unfolding the-list
+returns-22 c = sym (ap operationOf (c .match .keys22))
+
+returns-23 : tie.Need-returns-23
+unfolding the-list
+returns-23 c = sym (ap operationOf (c .match .keys23))
+
+returns-24 : tie.Need-returns-24
+unfolding the-list
+returns-24 c = sym (ap operationOf (c .match .keys24))
+
+returns-25 : tie.Need-returns-25
+unfolding the-list
+returns-25 c = sym (ap operationOf (c .match .keys25))
+
+returns-26 : tie.Need-returns-26
+unfolding the-list
+returns-26 c = sym (ap operationOf (c .match .keys26))
+
+returns-27 : tie.Need-returns-27
+returns-27 c = c .of-schema-instances .ensures
+
+returns-28 : tie.Need-returns-28
+returns-28 c =
+    let at-match = c .before .before in
+    sym (outside (at-match .before .args .number) (at-match .match .rest) (rw (lt-leb 30 (at-match .before .args .number) (c .if2 .taken))))
+
+returns-29 : tie.Need-returns-29
+returns-29 c =
+    let past = c .before in
+    let at-match = past .before .before .before in
+    sym (outside (at-match .before .args .number) (at-match .match .rest) (and-ended (leb 30 (at-match .before .args .number)) _ (lt-leb (at-match .before .args .number) 33 (past .if3 .left))))
+
+returns-30 : tie.Need-returns-30
+returns-30 c =
+    let at-match = c .before in
+    sym (outside (at-match .before .args .number) (at-match .match .rest) (rw (lt-leb 30 (at-match .before .args .number) (omega (arith, c .if1 .taken)))))
+
+returns-31 : tie.Need-returns-31
+returns-31 c =
+    let past = c .before in
+    let at-match = past .before .before .before in
+    sym (outside (at-match .before .args .number) (at-match .match .rest) (and-ended (leb 30 (at-match .before .args .number)) _ (lt-leb (at-match .before .args .number) 33 (past .if3 .left))))
 
 pub operation-of-spec : {M : Type 1} → statement M
 operation-of-spec =
@@ -102,4 +174,18 @@ operation-of-spec =
     returns-14
     returns-15
     returns-16
-    returns-17)
+    returns-17
+    returns-18
+    returns-19
+    returns-20
+    returns-21
+    returns-22
+    returns-23
+    returns-24
+    returns-25
+    returns-26
+    returns-27
+    returns-28
+    returns-29
+    returns-30
+    returns-31)

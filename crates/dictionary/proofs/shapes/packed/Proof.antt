@@ -22,6 +22,7 @@ packed-spec =
     (λ c. search needs)
     (λ c. search needs)
     (λ c. search needs)
+    (λ c. search needs)
     (λ c. omega (arith, first c))
     (λ c. search needs)
     (λ c. search needs)

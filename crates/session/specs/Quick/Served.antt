@@ -1,0 +1,18 @@
+-- What an operation leaves but the log: its refusal, or done, the value and the state, and the tables.
+use Prim.Native.Nat.{ℕ}
+use mathlib.Core.List.{List}
+use Rattle.session.specs.declared.call.Served.{Served}
+use Rattle.session.specs.declared.effects.Effect.{Effect}
+use Rattle.session.specs.Effects.{workingAfter, keptAfter}
+
+pub record Serving : Type 0 where
+  pub served : Served
+  pub working : List ℕ
+  pub kept : List ℕ
+
+abbrev pub serving : Served → List ℕ → List ℕ → Serving
+serving r w k = record { served = r; working = w; kept = k }
+
+abbrev pub servedBy : Effect → List ℕ → List ℕ → Serving
+servedBy e w k =
+    serving (record { refusal = e .refusal; value = e .value; state = e .state }) (workingAfter (e .tables) w k) (keptAfter (e .tables) w k)
