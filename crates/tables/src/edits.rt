@@ -28,8 +28,8 @@ pub fn put(t: &mut [u64], i: u32, k: u32, v: u32)
     ensures { λ _. ⌜ now (t .exit) ≡ withValue (now (t .entry)) i k v ⌝ }
 {
     if k < VALUES {
-        let header = with_flag(header_at(t, i), k);
         write(t, Kind::Instance, i, 1 + k, v as u64);
+        let header = with_flag(header_at(t, i), k);
         write(t, Kind::Instance, i, 0, header);
     }
 }
@@ -38,8 +38,8 @@ pub fn unset(t: &mut [u64], i: u32, k: u32)
     ensures { λ _. ⌜ now (t .exit) ≡ withoutValue (now (t .entry)) i k ⌝ }
 {
     if k < VALUES {
-        let header = without_flag(header_at(t, i), k);
         write(t, Kind::Instance, i, 1 + k, 0);
+        let header = without_flag(header_at(t, i), k);
         write(t, Kind::Instance, i, 0, header);
     }
 }

@@ -14,7 +14,7 @@ unfoldable pub the-list : Unit {0}
 unfolding listed lookup operationOf
 the-list = tt
 
--- a number is unlisted where a computed test says that every number of the list is another
+-- a number is unlisted if it fails a test that every number of the list passes
 pub unlisted : (listing : ℕ → Bool) → allIn (λ (row : Numbered). listing (row .number)) listed ≡ true → (n : ℕ) → listing n ≡ false → operationOf n ≡ Unlisted
 unfolding operationOf lookup allIn
 unlisted listing all n apart = in-none listed all

@@ -1,4 +1,4 @@
--- Edits of an attribute that an instance has no place for.
+-- Edits of an attribute: the value's word is not the header, and what is no attribute has no place.
 use mathlib.Core.Path.{_≡_, refl}
 use mathlib.Core.Bool.{Bool, true, false, cond}
 use mathlib.Core.List.{List}
@@ -14,7 +14,13 @@ use Rattle.words.specs.Layout.{strideOf, countOf, placeOf}
 use Rattle.words.specs.Fields.{values}
 use Rattle.words.specs.Entries.{inEntry, wordOf, withWord}
 use Rattle.logic.specs.Laws.Bools.{and-ended}
+use Rattle.words.specs.Laws.Entries.{word-other}
+use Rattle.tables.specs.View.{headerAt}
 use Rattle.tables.specs.Edits.{withValue, withoutValue}
+
+-- a value leaves the header as it is
+pub header-stays : (t : List ℕ) (i k v : ℕ) → headerAt (withWord t Instance i (1 + k) v) i ≡ headerAt t i
+header-stays t i k v = word-other t Instance i (1 + k) v Instance i 0 (λ same. omega (arith, same .places))
 
 -- a word written back as it is
 written-back : (t : List ℕ) (kind : Kind) (i k : ℕ) → withWord t kind i k (wordOf t kind i k) ≡ t

@@ -1,16 +1,18 @@
--- Below four the value and then the header are written; a number that is no attribute's changes nothing.
+-- Below four the value and then the header, which stayed, are written; a number that is no attribute's changes nothing.
 use mathlib.Core.Path.{sym}
-use Rattle.tables.specs.Laws.Edits.{put-past}
+use Rattle.tables.specs.Laws.Edits.{header-stays, put-past}
 use borrow.Author.Needs.{needs}
 use Rattle.tables.proofs.edits.put.Statement.{statement}
 use Rattle.tables.proofs.edits.put.Tie as tie
 
 returns : tie.Need-returns
 returns c =
-    let the-header-at = c .before .before .before .before .before .before .before .before .before .header-at in
-    let the-with-flag = c .before .before .before .before .before .before .before .before .with-flag in
-    let the-write = c .before .before .before .before .before .before .write in
-    rw (← the-header-at .ensures, ← the-with-flag .ensures, ← the-write .ensures) (c .before .before .write2 .ensures)
+    let at-write2 = c .before .before in
+    let at-flag = at-write2 .before .before in
+    let at-header = at-flag .before in
+    let at-write = at-header .before .before .before .before in
+    let a = at-write .before .before .before .before .args in
+    rw (← header-stays (a .t .now) (a .i) (a .k) (a .v), ← at-write .write .ensures, ← at-header .header-at .ensures, ← at-flag .with-flag .ensures) (at-write2 .write2 .ensures)
 
 returns-2 : tie.Need-returns-2
 returns-2 c = sym (put-past (c .before .before .args .t .now) (c .before .before .args .i) (c .before .before .args .k) (c .if1 .left) (c .before .before .args .v))
