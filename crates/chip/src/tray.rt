@@ -1,10 +1,17 @@
 // A whole tray at once (CHIP, trays): a row of orders, each answered as `chip_call` answers it, in that order.
 ghost use mathlib.Core.Path.{_≡_};
 ghost use Rattle.chip.specs.Tray.{trayed, tray};
-ghost use Rattle.chip.specs.Quick.Turns.{takenOf, closingOf, turnBy, begunWith, toldAt, turned, turnOf};
+ghost use Rattle.chip.specs.Quick.Turns.{takenOf, closingOf, turnBy, begunWith, turned, turnOf};
 ghost use Rattle.session.specs.Runs.{chipOf};
+use session::answers::carried;
+use session::answers::finished;
+use session::answers::log_stays;
+use session::answers::unsound;
 use session::call::is_sound;
-use session::call::judged;
+use session::call::serve_lent;
+use state::lent::marks_of;
+use state::lent::sets_of;
+use state::lent::state_of;
 use state::refusals::DONE;
 use state::refusals::SY_ERR;
 use state::refusals::on;
@@ -72,30 +79,30 @@ fn turn_by(sound: bool, r: Answer) -> Turn
     }
 }
 
-// Before the first order there is no result and nothing is known: neither is looked at.
-fn begun(x: Session) -> Turn
-    ensures { λ r. ⌜ r ≡ begunWith x ⌝ }
+// Before the first order there is no result. The state is tested here, once for all orders.
+fn begun(x: Session, working: &[u64], kept: &[u64]) -> Turn
+    ensures { λ r. ⌜ r ≡ begunWith x (now (working .entry)) (now (kept .entry)) ⌝ }
 {
-    turn_by(false, answer_of(DONE, 0, x))
-}
-
-// Whether the state is sound: the first order runs the test, and the others are told what it found.
-fn told(i: usize, sound: bool, x: Session, working: &[u64], kept: &[u64]) -> bool
-    ensures { λ r. ⌜ r ≡ toldAt i sound x (now (working .entry)) (now (kept .entry)) ⌝ }
-{
-    if i == 0 {
-        return is_sound(x, working, kept);
-    }
-    sound
+    turn_by(is_sound(x, working, kept), answer_of(DONE, 0, x))
 }
 
 // One order, on what the one before it left.
-fn next_turn(i: usize, o: Order, t: Turn, working: &mut [u64], kept: &mut [u64]) -> Turn
-    ensures { λ r. ⌜ turned r (now (working .exit)) (now (kept .exit)) ≡ turnOf i o t (now (working .entry)) (now (kept .entry)) ⌝ }
+fn next_turn(o: Order, t: Turn, working: &mut [u64], kept: &mut [u64]) -> Turn
+    ensures { λ r. ⌜ turned r (now (working .exit)) (now (kept .exit)) ≡ turnOf o t (now (working .entry)) (now (kept .entry)) ⌝ }
 {
     let x = t.session;
-    let sound = told(i, t.sound, x, working, kept);
-    turn_by(sound, judged(sound, o.op, o.a, o.b, o.c, x, working, kept))
+    if !t.sound {
+        return turn_by(false, unsound(x));
+    }
+    let before = x.state;
+    let mut sets = sets_of(before);
+    let mut marks = marks_of(before);
+    let r = serve_lent(o.op, o.a, o.b, o.c, working, kept, &mut sets, &mut marks);
+    let state = state_of(sets, marks);
+    if log_stays(r.refusal, state) {
+        return turn_by(true, carried(x, r.value, state));
+    }
+    turn_by(true, finished(o.op, x, r.refusal, r.value, state))
 }
 
 // The checker does not follow a slice of structs by itself: this function is proved by hand, and so it only moves structs.
@@ -110,10 +117,10 @@ pub extern "C" fn chip_tray(
     ensures { λ r. ⌜ trayed r (now (answers .exit)) (now (working .exit)) (now (kept .exit)) ≡ tray (now (orders .entry)) (now (answers .entry)) (chipOf x (now (working .entry)) (now (kept .entry))) ⌝ }
 {
     let n = taken(orders.len(), answers.len());
-    let mut t = begun(x);
+    let mut t = begun(x, working, kept);
     let mut i: usize = 0;
     while i < n {
-        t = next_turn(i, orders[i], t, working, kept);
+        t = next_turn(orders[i], t, working, kept);
         answers[i] = t.result;
         i += 1;
     }

@@ -4,9 +4,10 @@ ghost use mathlib.Core.Path.{_≡_};
 ghost use Rattle.checks.specs.Operations.{operationOf};
 ghost use Rattle.session.specs.Effects.{workingAfter, keptAfter};
 ghost use Rattle.session.specs.Rows.{performed};
-ghost use Rattle.session.specs.Quick.Served.{serving, servedBy};
+ghost use Rattle.state.specs.Quick.Lent.{stateOf};
+ghost use Rattle.session.specs.Quick.Served.{serving, servedBy, lending, lentBy};
 ghost use Rattle.session.specs.Sound.{sound as soundState};
-ghost use Rattle.session.specs.Step.{outcome, core as coreOf, judged as judgedOf, step};
+ghost use Rattle.session.specs.Step.{outcome, core as coreOf, step};
 use crate::answers::carried;
 use crate::answers::finished;
 use crate::answers::log_stays;
@@ -15,6 +16,11 @@ use crate::effects::Tables;
 use crate::perform::perform;
 use crate::sound::sound_session;
 use checks::operations::operation_of;
+use state::lent::MARKS;
+use state::lent::SETS;
+use state::lent::marks_of;
+use state::lent::sets_of;
+use state::lent::state_of;
 use state::refusals;
 use state::state::Answer;
 use state::state::RW;
@@ -75,6 +81,37 @@ pub fn serve(
     }
 }
 
+// What an operation answers where its state was lent.
+pub struct Reply {
+    pub refusal: u32,
+    pub value: u32,
+}
+
+// The same with the state lent, for whoever goes on with it in place. Its parts stand behind the tables: before them they made
+// the code 700 bytes larger.
+pub fn serve_lent(
+    op: u32,
+    a: u32,
+    b: u32,
+    c: u32,
+    working: &mut [u64],
+    kept: &mut [u64],
+    sets: &mut [u64; SETS],
+    marks: &mut [u32; MARKS],
+) -> Reply
+    ensures { λ r. ⌜ lending r (now (sets .exit)) (now (marks .exit)) (now (working .exit)) (now (kept .exit)) ≡ lentBy (performed (operationOf op) a b c (stateOf (now (sets .entry)) (now (marks .entry))) (now (working .entry))) (now (working .entry)) (now (kept .entry)) ⌝ }
+{
+    let before = state_of(*sets, *marks);
+    let r = serve(op, a, b, c, before, working, kept);
+    let after = r.state;
+    *sets = sets_of(after);
+    *marks = marks_of(after);
+    Reply {
+        refusal: r.refusal,
+        value: r.value,
+    }
+}
+
 // Where the log stays, as it nearly always does, the answer is made at once: so the compiler copies the events once less.
 pub fn core(
     op: u32,
@@ -106,25 +143,6 @@ pub fn is_sound(x: Session, working: &[u64], kept: &[u64]) -> bool
     sound_session(x, working)
 }
 
-// A call on a state of which is known whether it is sound.
-pub fn judged(
-    sound: bool,
-    op: u32,
-    a: u32,
-    b: u32,
-    c: u32,
-    x: Session,
-    working: &mut [u64],
-    kept: &mut [u64],
-) -> Answer
-    ensures { λ r. ⌜ outcome r (now (working .exit)) (now (kept .exit)) ≡ judgedOf sound op a b c x (now (working .entry)) (now (kept .entry)) ⌝ }
-{
-    if !sound {
-        return unsound(x);
-    }
-    core(op, a, b, c, x, working, kept)
-}
-
 pub fn call(
     op: u32,
     a: u32,
@@ -136,5 +154,8 @@ pub fn call(
 ) -> Answer
     ensures { λ r. ⌜ outcome r (now (working .exit)) (now (kept .exit)) ≡ step op a b c x (now (working .entry)) (now (kept .entry)) ⌝ }
 {
-    judged(is_sound(x, working, kept), op, a, b, c, x, working, kept)
+    if !is_sound(x, working, kept) {
+        return unsound(x);
+    }
+    core(op, a, b, c, x, working, kept)
 }

@@ -4,7 +4,7 @@
 use mathlib.Core.Path.{_≡_, sym, _∙_}
 use denote.Ref.{now}
 use Rattle.session.specs.Step.{outcome}
-use Rattle.session.specs.Quick.Served.{serving}
+use Rattle.session.specs.Quick.Served.{serving, lending}
 use Rattle.words.proofs.layout.base.Reads as words-layout-base
 use Rattle.words.proofs.layout.stride.Reads as words-layout-stride
 use Rattle.words.proofs.layout.count.Reads as words-layout-count
@@ -67,6 +67,9 @@ use Rattle.tables.proofs.view.is_set.Reads as tables-view-is-set
 use Rattle.tables.proofs.view.value_at.Reads as tables-view-value-at
 use Rattle.state.proofs.events.blank_log.Reads as state-events-blank-log
 use Rattle.state.proofs.events.noted.Reads as state-events-noted
+use Rattle.state.proofs.lent.sets_of.Reads as state-lent-sets-of
+use Rattle.state.proofs.lent.marks_of.Reads as state-lent-marks-of
+use Rattle.state.proofs.lent.state_of.Reads as state-lent-state-of
 use Rattle.state.proofs.refusals.on.Reads as state-refusals-on
 use Rattle.state.proofs.refusals.number_in.Reads as state-refusals-number-in
 use Rattle.state.proofs.refusals.place_in.Reads as state-refusals-place-in
@@ -106,9 +109,9 @@ use Rattle.session.proofs.answers.log_stays.Reads as session-answers-log-stays
 use Rattle.session.proofs.answers.carried.Reads as session-answers-carried
 use Rattle.session.proofs.answers.finished.Reads as session-answers-finished
 use Rattle.session.proofs.call.serve.Reads as session-call-serve
+use Rattle.session.proofs.call.serve_lent.Reads as session-call-serve-lent
 use Rattle.session.proofs.call.core.Reads as session-call-core
 use Rattle.session.proofs.call.is_sound.Reads as session-call-is-sound
-use Rattle.session.proofs.call.judged.Reads as session-call-judged
 use Rattle.session.proofs.call.call.Reads as session-call-call
 use Rattle.records.proofs.decoding.decode.Reads as records-decoding-decode
 use Rattle.records.proofs.lines.line.Reads as records-lines-line
@@ -311,6 +314,15 @@ state-events-blank-log-one κs a x y s s′ p q = p ∙ sym q
 pub state-events-noted-one : (κs : _) (a : _) (x y : _) (s s′ : _) → state-events-noted.Post κs a x s → state-events-noted.Post κs a y s′ → x ≡ y
 state-events-noted-one κs a x y s s′ p q = p ∙ sym q
 
+pub state-lent-sets-of-one : (κs : _) (a : _) (x y : _) (s s′ : _) → state-lent-sets-of.Post κs a x s → state-lent-sets-of.Post κs a y s′ → x ≡ y
+state-lent-sets-of-one κs a x y s s′ p q = p ∙ sym q
+
+pub state-lent-marks-of-one : (κs : _) (a : _) (x y : _) (s s′ : _) → state-lent-marks-of.Post κs a x s → state-lent-marks-of.Post κs a y s′ → x ≡ y
+state-lent-marks-of-one κs a x y s s′ p q = p ∙ sym q
+
+pub state-lent-state-of-one : (κs : _) (a : _) (x y : _) (s s′ : _) → state-lent-state-of.Post κs a x s → state-lent-state-of.Post κs a y s′ → x ≡ y
+state-lent-state-of-one κs a x y s s′ p q = p ∙ sym q
+
 pub state-refusals-on-one : (κs : _) (a : _) (x y : _) (s s′ : _) → state-refusals-on.Post κs a x s → state-refusals-on.Post κs a y s′ → x ≡ y
 state-refusals-on-one κs a x y s s′ p q = p ∙ sym q
 
@@ -433,16 +445,17 @@ pub session-call-serve-one : (κs : _) (a : _) (x y : _) (s s′ : _) → sessio
     → serving x (now (s .1 .1 .1 .1 .1 .0)) (now (s .1 .1 .1 .1 .1 .1 .0)) ≡ serving y (now (s′ .1 .1 .1 .1 .1 .0)) (now (s′ .1 .1 .1 .1 .1 .1 .0))
 session-call-serve-one κs a x y s s′ p q = p ∙ sym q
 
+pub session-call-serve-lent-one : (κs : _) (a : _) (x y : _) (s s′ : _) → session-call-serve-lent.Post κs a x s → session-call-serve-lent.Post κs a y s′
+    → lending x (now (s .1 .1 .1 .1 .1 .1 .0)) (now (s .1 .1 .1 .1 .1 .1 .1 .0)) (now (s .1 .1 .1 .1 .0)) (now (s .1 .1 .1 .1 .1 .0))
+    ≡ lending y (now (s′ .1 .1 .1 .1 .1 .1 .0)) (now (s′ .1 .1 .1 .1 .1 .1 .1 .0)) (now (s′ .1 .1 .1 .1 .0)) (now (s′ .1 .1 .1 .1 .1 .0))
+session-call-serve-lent-one κs a x y s s′ p q = p ∙ sym q
+
 pub session-call-core-one : (κs : _) (a : _) (x y : _) (s s′ : _) → session-call-core.Post κs a x s → session-call-core.Post κs a y s′
     → outcome x (now (s .1 .1 .1 .1 .1 .0)) (now (s .1 .1 .1 .1 .1 .1 .0)) ≡ outcome y (now (s′ .1 .1 .1 .1 .1 .0)) (now (s′ .1 .1 .1 .1 .1 .1 .0))
 session-call-core-one κs a x y s s′ p q = p ∙ sym q
 
 pub session-call-is-sound-one : (κs : _) (a : _) (x y : _) (s s′ : _) → session-call-is-sound.Post κs a x s → session-call-is-sound.Post κs a y s′ → x ≡ y
 session-call-is-sound-one κs a x y s s′ p q = p ∙ sym q
-
-pub session-call-judged-one : (κs : _) (a : _) (x y : _) (s s′ : _) → session-call-judged.Post κs a x s → session-call-judged.Post κs a y s′
-    → outcome x (now (s .1 .1 .1 .1 .1 .1 .0)) (now (s .1 .1 .1 .1 .1 .1 .1 .0)) ≡ outcome y (now (s′ .1 .1 .1 .1 .1 .1 .0)) (now (s′ .1 .1 .1 .1 .1 .1 .1 .0))
-session-call-judged-one κs a x y s s′ p q = p ∙ sym q
 
 pub session-call-call-one : (κs : _) (a : _) (x y : _) (s s′ : _) → session-call-call.Post κs a x s → session-call-call.Post κs a y s′
     → outcome x (now (s .1 .1 .1 .1 .1 .0)) (now (s .1 .1 .1 .1 .1 .1 .0)) ≡ outcome y (now (s′ .1 .1 .1 .1 .1 .0)) (now (s′ .1 .1 .1 .1 .1 .1 .0))

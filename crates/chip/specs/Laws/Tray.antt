@@ -2,13 +2,12 @@
 use mathlib.Core.Path.{_≡_, refl, sym, ap, _∙_}
 use mathlib.Core.Bool.{Bool, true, false, cond}
 use mathlib.Core.List.{List, [], _∷_, _++_, map, reverse, reverse-append, reverse-cons, append-assoc}
-use Prim.Native.Nat.{ℕ, zero, suc, _<_}
+use Prim.Native.Nat.{ℕ, suc, _<_}
 use native.Mathlib.Nat.{mod-eq-of-lt}
 use native.Mathlib.Omega.{arith}
-use lib.Dec.{leb, eqb}
+use lib.Dec.{leb}
 use lib.ListN.{length, getD, set, take, drop, length-map, length-reverse}
 use lib.Seq.{take-suc, take-length, length-take-le, drop-cons, set-at}
-use borrow.Author.Tests.{ne-eqb}
 use Rattle.state.specs.Refusals.{SY-ERR, done, _on_}
 use Rattle.state.specs.States.{answer}
 use Rattle.session.specs.Sound.{sound}
@@ -18,7 +17,7 @@ use Rattle.promises.specs.Stays.{soundness-told}
 use Rattle.chip.specs.declared.tray.Order.{Order}
 use Rattle.chip.specs.declared.tray.Result.{Result}
 use Rattle.chip.specs.Tray.{Trayed, trayed, callOf, asked, resultOf, results, written, allTaken, noneTaken, tray}
-use Rattle.chip.specs.Quick.Turns.{takenOf, turned, begunWith, turnedBy, toldAt, turnOf, Standing, noOrder, stepped, standing}
+use Rattle.chip.specs.Quick.Turns.{takenOf, turned, begunWith, turnedBy, turnOf, Standing, noOrder, stepped, standing}
 
 -- ---- the rows
 
@@ -71,33 +70,27 @@ pub record Stands (orders : List Order) (row : List Result) (begun : Chip) (i : 
   pub chip : chipOf (z .after .turn .session) (z .after .working) (z .after .kept) ≡ chipAt orders begun i
   pub answers : z .answers ≡ written (historyAt orders begun i) row
   pub as-sound : soundOf (chipAt orders begun i) ≡ soundOf begun
-  pub told : (i ≡ 0 → ⊥) → z .after .turn .sound ≡ soundOf begun
+  pub told : z .after .turn .sound ≡ soundOf begun
 
 module _ (orders : List Order) (row : List Result) (begun : Chip) where
   abbrev standingAt : ℕ → Standing
-  standingAt i = standing i orders row (turned (begunWith (begun .session)) (begun .working) (begun .kept))
+  standingAt i = standing i orders row (turned (begunWith (begun .session) (begun .working) (begun .kept)) (begun .working) (begun .kept))
 
   pub stands-begun : Stands orders row begun 0 (standingAt 0)
   unfolding afterBy historyBy
-  stands-begun = record { chip = refl; answers = refl; as-sound = refl; told = λ n. absurd (n refl) }
+  stands-begun = record { chip = refl; answers = refl; as-sound = refl; told = refl }
 
   module _ (i : ℕ) (z : Standing) (h : Stands orders row begun i z) where
     abbrev here : Chip
     here = chipOf (z .after .turn .session) (z .after .working) (z .after .kept)
 
-    -- the test at the first order, and what is told at the others
-    told-rightly : toldAt i (z .after .turn .sound) (z .after .turn .session) (z .after .working) (z .after .kept) ≡ soundOf here
-    told-rightly = by-cases i (h .told)
-      where
-        by-cases : (j : ℕ) → ((j ≡ 0 → ⊥) → z .after .turn .sound ≡ soundOf begun) → cond (eqb j 0) (soundOf here) (z .after .turn .sound) ≡ soundOf here
-        by-cases zero t = refl
-        by-cases (suc j) t =
-            let later : suc j ≡ 0 → ⊥ = λ e. omega (arith, e) in
-            rw (ne-eqb (suc j) 0 later) (t later ∙ sym (h .as-sound) ∙ sym (ap soundOf (h .chip)))
+    -- what was found before the first order holds at the others
+    told-rightly : z .after .turn .sound ≡ soundOf here
+    told-rightly = h .told ∙ sym (h .as-sound) ∙ sym (ap soundOf (h .chip))
 
     module _ (o : Order) (small : o .c < 0x1_0000_0000) where
       -- a turn does what the call does
-      turn-is-call : turnOf i o (z .after .turn) (z .after .working) (z .after .kept) ≡ turnedBy (soundOf here) (outcomeOf here (callOf o))
+      turn-is-call : turnOf o (z .after .turn) (z .after .working) (z .after .kept) ≡ turnedBy (soundOf here) (outcomeOf here (callOf o))
       unfolding turnOf step
       turn-is-call = rw (told-rightly, mod-eq-of-lt small)
 
@@ -130,7 +123,7 @@ module _ (orders : List Order) (row : List Result) (begun : Chip) where
       unfolding historyBy
       history-next = ap (history begun) (asked-next orders i l)
 
-      pub stands-next : Stands orders row begun (suc i) (stepped i (turnOf i (getD orders i noOrder) (z .after .turn) (z .after .working) (z .after .kept)) z)
+      pub stands-next : Stands orders row begun (suc i) (stepped i (turnOf (getD orders i noOrder) (z .after .turn) (z .after .working) (z .after .kept)) z)
       stands-next =
           let chip = chipAt orders begun i in
           let stays = soundness-told (asked-now .op) (asked-now .a) (asked-now .b) (asked-now .c) (chip .session) (chip .working) (chip .kept) (asked-now .small) in
@@ -138,7 +131,7 @@ module _ (orders : List Order) (row : List Result) (begun : Chip) where
             chip = ap (λ (chip : Chip). left (outcomeOf chip asked-now)) (h .chip) ∙ sym chip-next;
             answers = answer-written ∙ ap (λ (l : List Answered). written l row) (sym history-next);
             as-sound = ap soundOf chip-next ∙ stays ∙ h .as-sound;
-            told = λ n. ap soundOf (h .chip) ∙ h .as-sound;
+            told = ap soundOf (h .chip) ∙ h .as-sound;
           })
 
 -- ---- the whole row

@@ -1,8 +1,8 @@
--- A tray as the code goes over it: order by order, with the test of soundness at the first alone.
+-- A tray as the code goes over it: the test of soundness, and then order by order.
 use Prim.Native.Nat.{ℕ, zero, suc}
-use mathlib.Core.Bool.{Bool, false, cond}
+use mathlib.Core.Bool.{Bool, cond}
 use mathlib.Core.List.{List}
-use lib.Dec.{leb, eqb}
+use lib.Dec.{leb}
 use lib.ListN.{getD, set}
 use Rattle.state.specs.declared.state.Session.{Session}
 use Rattle.state.specs.declared.state.Answer.{Answer}
@@ -33,21 +33,15 @@ turned t w k = record { turn = t; working = w; kept = k }
 abbrev pub turnBy : Bool → Answer → Turn
 turnBy isSound a = record { session = a .session; result = record { refusal = a .refusal; place = a .place; value = a .value }; sound = isSound }
 
-abbrev pub begunWith : Session → Turn
-begunWith x = turnBy false (answer done 0 x)
+-- before the first order: the state is tested
+abbrev pub begunWith : Session → List ℕ → List ℕ → Turn
+begunWith x w k = turnBy (sound x w k) (answer done 0 x)
 
 abbrev pub turnedBy : Bool → Outcome → Turned
 turnedBy isSound o = turned (turnBy isSound (o .answer)) (o .working) (o .kept)
 
--- whether the state is sound: the first order runs the test, and the others are told
-abbrev pub toldAt : ℕ → Bool → Session → List ℕ → List ℕ → Bool
-toldAt i isSound x w k = cond (eqb i 0) (sound x w k) isSound
-
-abbrev pub turnKnowing : Bool → Order → Session → List ℕ → List ℕ → Turned
-turnKnowing isSound o x w k = turnedBy isSound (judged isSound (o .op) (o .a) (o .b) (o .c) x w k)
-
-unfoldable pub turnOf : ℕ → Order → Turn → List ℕ → List ℕ → Turned
-turnOf i o t w k = turnKnowing (toldAt i (t .sound) (t .session) w k) o (t .session) w k
+unfoldable pub turnOf : Order → Turn → List ℕ → List ℕ → Turned
+turnOf o t w k = turnedBy (t .sound) (judged (t .sound) (o .op) (o .a) (o .b) (o .c) (t .session) w k)
 
 -- what stands after the first i orders
 pub record Standing : Type 0 where
@@ -65,4 +59,4 @@ abbrev pub standing : ℕ → List Order → List Result → Turned → Standing
 standing zero orders answers begun = record { answers = answers; after = begun }
 standing (suc i) orders answers begun =
     let z = standing i orders answers begun in
-    stepped i (turnOf i (getD orders i noOrder) (z .after .turn) (z .after .working) (z .after .kept)) z
+    stepped i (turnOf (getD orders i noOrder) (z .after .turn) (z .after .working) (z .after .kept)) z

@@ -1,7 +1,7 @@
 -- `chip_tray` meets its contract: a walk of its MIR by hand, since a slice of structs is nothing that the borrow checker follows.
--- Each turn lends the two tables on to `next_turn` for a lifetime of that call, moves an order in and a result out, and all that
--- branches stands in the four functions that are called. What stands after i turns is `standing i`; that it is what the calls
--- leave is `Stands` of the laws, carried from turn to turn.
+-- The two tables are lent on to `begun`, to be read, and at each turn to `next_turn`, for a lifetime of that call. A turn moves an
+-- order in and a result out, and all that branches stands in the four functions that are called. What stands after i turns is
+-- `standing i`; that it is what the calls leave is `Stands` of the laws, carried from turn to turn.
 mod Lent
 use mathlib.Core.Path.{_≡_, refl, sym, ap, subst, _∙_}
 use Prim.Native.Nat.{ℕ, zero, suc, _+_, _*_, _<_, _≤_, _^_}
@@ -73,7 +73,7 @@ use Rattle.chip.proofs.tray.Result as S
 use Rattle.chip.proofs.tray.Result.Laws as S′
 use Rattle.chip.proofs.tray.Turn as U
 use Rattle.chip.proofs.tray.Turn.Laws as U′
-use Rattle.chip.proofs.tray.chip_tray.Proof.Lent.{Waiting, lends-on, comes-back}
+use Rattle.chip.proofs.tray.chip_tray.Proof.Lent.{Waiting, lends-on, comes-back, Sharing, shares-on, shared-back}
 use Rattle.chip.proofs.tray.taken as taken
 use Rattle.chip.proofs.tray.taken.Symbol as taken-def
 use Rattle.chip.proofs.tray.taken.Symbol.{name as #chip·tray·taken}
@@ -145,6 +145,12 @@ refU = tyRef erased mut word
 
 abbrev sU : Ty
 sU = sliceTy refU
+
+abbrev refI : Ty
+refI = tyRef erased imm word
+
+abbrev sI : Ty
+sI = sliceTy refI
 
 -- a result that no row has, for the element behind the last
 abbrev noResult : Result
@@ -229,7 +235,7 @@ module _ {M : Type 1} (𝓤 : URA M) (H : Heap 𝓤) (A : Atoms 𝓤) (W : Given
 
   -- what stands after i orders
   abbrev cur : ℕ → Standing
-  cur i = standing i ys zs (turned (begunWith s) ws ks)
+  cur i = standing i ys zs (turned (begunWith s ws ks) ws ks)
 
   abbrev turn : ℕ → Turn
   turn i = cur i .after .turn
@@ -327,14 +333,35 @@ module _ {M : Type 1} (𝓤 : URA M) (H : Heap 𝓤) (A : Atoms 𝓤) (W : Given
       nothing ! $ owned ! usize (Is usize) (uint-makes 𝓤 H A W w64) p _ (refl, v) $ fjoin ! $ owned ! usize (Is usize) (uint-makes 𝓤 H A W w64) n _ (refl, u) $
       fjoin ! $ move ! (1 ∷ 0 ∷ []) $ join ! $ frame ! $ done !
 
-  abbrev to-begun : Begun 𝓤 H A amem run .Ghost
-  to-begun = ((tt, tt, tt, (s, tt), (mS s ∷ [], tt)), tt)
+  -- before the first order: the tables, to be read, under their names for the call
+  module _ (ν₁ ν₂ : ℕ) (δ₁ δ₂ : GName) where
+    abbrev begun-args : Session × (RefT (List ℕ) × (RefT (List ℕ) × Unit {0}))
+    begun-args = (s, (xw δ₁ ws, (xk δ₂ ks, tt)))
 
-  goes-begun : Is Se s (mS s ∷ []) → ent 𝓤 (sem 𝓤 H A ftrue) (Begun 𝓤 H A amem run .pre to-begun)
-  goes-begun gs =
-      qed W (‵ ftrue ∷ []) ∵
-      nothing ! $ owned ! Se (Is Se) (LL.makes Z.the-type Z′.the-plain 𝓤 H A) s _ gs $ fjoin ! $ move ! (1 ∷ 0 ∷ []) $ join ! $
-      frame ! $ done !
+    abbrev to-begun : Begun 𝓤 H A amem run .Ghost
+    to-begun = (
+      (
+        (ν₁ ∷ [], (ν₂ ∷ [], tt)),
+        (fullShare, (fullShare, tt)),
+        tt,
+        begun-args,
+        (mS s ∷ [], (vw (length ws) ∷ [], (vk (length ks) ∷ [], tt))),
+      ),
+      tt,
+    )
+
+    abbrev Shared : List (Item 𝓤)
+    Shared =
+        (‵ (flft (ν₁ ∷ []) fullShare) ⊛ ‵ (flft (ν₂ ∷ []) fullShare))
+        ∷ ‵ (ShrSlice (named 0) (ν₁ ∷ []) u64 .own (xw δ₁ ws) (vw (length ws) ∷ [])) ∷ ‵ (ShrSlice (named 1) (ν₂ ∷ []) u64 .own (xk δ₂ ks) (vk (length ks) ∷ []))
+        ∷ []
+
+    goes-begun : Is Se s (mS s ∷ []) → ent 𝓤 (⋆ 𝓤 H A Shared) (Begun 𝓤 H A amem run .pre to-begun)
+    goes-begun gs =
+        qed W Shared ∵
+        split ! $ nothing ! $ move ! (2 ∷ 0 ∷ []) $ join ! $ move ! (1 ∷ 0 ∷ []) $ join ! $ nothing ! $ move ! (3 ∷ 0 ∷ []) $ fjoin ! $
+        move ! (2 ∷ 0 ∷ []) $ fjoin ! $ owned ! Se (Is Se) (LL.makes Z.the-type Z′.the-plain 𝓤 H A) s _ gs $ fjoin ! $
+        move ! (1 ∷ 0 ∷ []) $ join ! $ frame ! $ done !
 
   abbrev to-closing : Closing 𝓤 H A amem run .Ghost
   to-closing = ((tt, tt, tt, (n, (p, (turn m .session, tt))), (vint w64 n ∷ [], (vint w64 p ∷ [], (mS (turn m .session) ∷ [], tt)))), tt)
@@ -351,8 +378,8 @@ module _ {M : Type 1} (𝓤 : URA M) (H : Heap 𝓤) (A : Atoms 𝓤) (W : Given
     abbrev order : Order
     order = getD ys i noOrder
 
-    abbrev args : ℕ × (Order × (Turn × (RefT (List ℕ) × (RefT (List ℕ) × Unit {0}))))
-    args = (i, (order, (turn i, (xw δ₁ (working i), (xk δ₂ (kept i), tt)))))
+    abbrev args : Order × (Turn × (RefT (List ℕ) × (RefT (List ℕ) × Unit {0})))
+    args = (order, (turn i, (xw δ₁ (working i), (xk δ₂ (kept i), tt))))
 
     abbrev to-next : Next 𝓤 H A amem run .Ghost
     to-next = (
@@ -361,7 +388,7 @@ module _ {M : Type 1} (𝓤 : URA M) (H : Heap 𝓤) (A : Atoms 𝓤) (W : Given
         (fullShare, (fullShare, tt)),
         tt,
         args,
-        (vint w64 i ∷ [], (mO order ∷ [], (mT (turn i) ∷ [], (vw (length (working i)) ∷ [], (vk (length (kept i)) ∷ [], tt))))),
+        (mO order ∷ [], (mT (turn i) ∷ [], (vw (length (working i)) ∷ [], (vk (length (kept i)) ∷ [], tt)))),
       ),
       tt,
     )
@@ -372,17 +399,17 @@ module _ {M : Type 1} (𝓤 : URA M) (H : Heap 𝓤) (A : Atoms 𝓤) (W : Given
         ∷ ‵ (MutSlice (named 0) (ν₁ ∷ []) u64 .own (xw δ₁ (working i)) (vw (length (working i)) ∷ []))
         ∷ ‵ (MutSlice (named 1) (ν₂ ∷ []) u64 .own (xk δ₂ (kept i)) (vk (length (kept i)) ∷ [])) ∷ []
 
-    goes-next : i < 2 ^ 64 → Is O order (mO order ∷ []) → Is Tu (turn i) (mT (turn i) ∷ []) → ent 𝓤 (⋆ 𝓤 H A Handed) (Next 𝓤 H A amem run .pre to-next)
-    goes-next fits go gt =
+    goes-next : Is O order (mO order ∷ []) → Is Tu (turn i) (mT (turn i) ∷ []) → ent 𝓤 (⋆ 𝓤 H A Handed) (Next 𝓤 H A amem run .pre to-next)
+    goes-next go gt =
         qed W Handed ∵
         split ! $ nothing ! $ move ! (2 ∷ 0 ∷ []) $ join ! $ move ! (1 ∷ 0 ∷ []) $ join ! $ nothing ! $ move ! (3 ∷ 0 ∷ []) $ fjoin ! $
         move ! (2 ∷ 0 ∷ []) $ fjoin ! $ owned ! Tu (Is Tu) (LL.makes U.the-type U′.the-plain 𝓤 H A) (turn i) _ gt $
-        fjoin ! $ owned ! O (Is O) (LL.makes T.the-type T′.the-plain 𝓤 H A) order _ go $ fjoin ! $ owned ! usize (Is usize) (uint-makes 𝓤 H A W w64) i _ (refl, fits) $
-        fjoin ! $ move ! (1 ∷ 0 ∷ []) $ join ! $ frame ! $ done !
+        fjoin ! $ owned ! O (Is O) (LL.makes T.the-type T′.the-plain 𝓤 H A) order _ go $ fjoin ! $
+        move ! (1 ∷ 0 ∷ []) $ join ! $ frame ! $ done !
 
   module _ (𝓣 : Tables 𝓤 H) (nexts : Triple 𝓤 (𝓣 .C #chip·tray·next-turn) (Next 𝓤 H A amem run)) (closes : Triple 𝓤 (𝓣 .C #chip·tray·closing) (Closing 𝓤 H A amem run))
       (go : Room O n) (gn : Room N p) (gs : Is Se s (mS s ∷ [])) (gw : Room u64 (length ws)) (gk : Room u64 (length ks))
-      (l0 l1 l2 l3 l4 l5 l6 l7 l8 l9 l10 l11 l12 l13 l14 l15 l16 l17 l18 l19 : ℕ) where
+      (l0 l1 l2 l3 l4 l5 l6 l7 l8 l9 l10 l11 l12 l13 l14 l15 l16 l17 l18 l19 a0 a1 a2 a3 : ℕ) where
     abbrev C : Calls 𝓤 H
     C = 𝓣 .C
 
@@ -391,8 +418,8 @@ module _ {M : Type 1} (𝓤 : URA M) (H : Heap 𝓤) (A : Atoms 𝓤) (W : Given
 
     abbrev En : Env 𝓤 H
     En =
-        (F′.mir, l0) ∷ (sO, l1) ∷ (sN, l2) ∷ (Z′.mir, l3) ∷ (sW, l4) ∷ (sK, l5) ∷ (word, l6) ∷ (U′.mir, l7) ∷ (word, l8) ∷ (word, l9) ∷ (word, l10) ∷ (tyBool, l11) ∷ (word, l12)
-        ∷ (tyPtr, l13) ∷ (T′.mir, l14) ∷ (refU, l15) ∷ (sU, l16) ∷ (refU, l17) ∷ (sU, l18) ∷ (tyPtr, l19) ∷ []
+        (F′.mir, l0) ∷ (sO, l1) ∷ (sN, l2) ∷ (Z′.mir, l3) ∷ (sW, l4) ∷ (sK, l5) ∷ (word, l6) ∷ (U′.mir, l7) ∷ (word, l8) ∷ (word, l9) ∷ (word, l10)
+        ∷ (refI, a0) ∷ (sI, a1) ∷ (refI, a2) ∷ (sI, a3) ∷ (tyBool, l11) ∷ (word, l12) ∷ (tyPtr, l13) ∷ (T′.mir, l14) ∷ (refU, l15) ∷ (sU, l16) ∷ (refU, l17) ∷ (sU, l18) ∷ (tyPtr, l19) ∷ []
 
     -- what is had where turn i begins
     abbrev At : ℕ → List (Item 𝓤)
@@ -406,7 +433,9 @@ module _ {M : Type 1} (𝓤 : URA M) (H : Heap 𝓤) (A : Atoms 𝓤) (W : Given
         ∷ Ownk (kept i) (length (kept i)) ∷ ‵ (flft κk qk) ∷ OwnO ∷ ‵ (flft κ q)
         ∷ ‵ (fdies F′.mir l0) ∷ ‵ (fdies sO l1) ∷ ‵ (fdies sN l2) ∷ ‵ (fdies Z′.mir l3) ∷ ‵ (fdies sW l4) ∷ ‵ (fdies sK l5) ∷ ‵ (fdies word l6) ∷ ‵ (fdies U′.mir l7)
         ∷ ‵ (fdies word l8) ∷ ‵ (fdies word l9) ∷ ‵ (fdies word l10) ∷ ‵ (fdies tyBool l11) ∷ ‵ (fdies word l12) ∷ ‵ (fdies tyPtr l13) ∷ ‵ (fdies T′.mir l14) ∷ ‵ (fdies refU l15)
-        ∷ ‵ (fdies sU l16) ∷ ‵ (fdies refU l17) ∷ ‵ (fdies sU l18) ∷ ‵ (fdies tyPtr l19) ∷ []
+        ∷ ‵ (fdies sU l16) ∷ ‵ (fdies refU l17) ∷ ‵ (fdies sU l18) ∷ ‵ (fdies tyPtr l19)
+        ∷ ‵ (froom refI a0 0) ∷ ‵ (froom sI a1 0) ∷ ‵ (froom refI a2 0) ∷ ‵ (froom sI a3 0)
+        ∷ ‵ (fdies refI a0) ∷ ‵ (fdies sI a1) ∷ ‵ (fdies refI a2) ∷ ‵ (fdies sI a3) ∷ []
 
     -- the invariant, where t orders are left
     abbrev Facts : ℕ → ℕ → Type 0
@@ -419,17 +448,17 @@ module _ {M : Type 1} (𝓤 : URA M) (H : Heap 𝓤) (A : Atoms 𝓤) (W : Given
     Below t = ex 𝓤 (λ (t′ : ℕ). guard 𝓤 (t′ < t) (Inv t′))
 
     abbrev Rest : Out → SProp 𝓤
-    Rest = afterBlock 𝓤 H (afterSeq 𝓤 H (Wp 𝓤 H C Λ En pieces.t-7 (atReturn 𝓤 H En Post)) (atReturn 𝓤 H En Post))
+    Rest = afterBlock 𝓤 H (afterSeq 𝓤 H (Wp 𝓤 H C Λ En pieces.t-11 (atReturn 𝓤 H En Post)) (atReturn 𝓤 H En Post))
 
     -- what `next_turn` says of turn i
     abbrev Lasts : Type 0
-    Lasts = Unit {0} × (Unit {0} × (Unit {0} × (List ℕ × (List ℕ × Unit {0}))))
+    Lasts = Unit {0} × (Unit {0} × (List ℕ × (List ℕ × Unit {0})))
 
     abbrev Said : ℕ → Turn → Lasts → Type 0
-    Said i r us = turned r (us .1 .1 .1 .0) (us .1 .1 .1 .1 .0) ≡ cur (suc i) .after
+    Said i r us = turned r (us .1 .1 .0) (us .1 .1 .1 .0) ≡ cur (suc i) .after
 
     known-next : (i : ℕ) → i < m → Known i → (r : Turn) (v : Val) (us : Lasts) → Said i r us → Is Tu r (v ∷ []) → Is O (getD ys i noOrder) (mO (getD ys i noOrder) ∷ [])
-        → length (us .1 .1 .1 .0) ≡ length (working i) → length (us .1 .1 .1 .1 .0) ≡ length (kept i) → Known (suc i)
+        → length (us .1 .1 .0) ≡ length (working i) → length (us .1 .1 .1 .0) ≡ length (kept i) → Known (suc i)
     known-next i l kn r v us e is order lw lk = record {
       answers = length-set (cur i .answers) i (turn (suc i) .result) ∙ kn .answers;
       working-long = ap (λ (y : Turned). length (y .working)) (sym e) ∙ lw ∙ kn .working-long;
@@ -479,43 +508,42 @@ module _ {M : Type 1} (𝓤 : URA M) (H : Heap 𝓤) (A : Atoms 𝓤) (W : Given
         (λ (δ : GName). ‵ (MutSlice (named 1) (ν₂ ∷ []) u64 .own (xk δ (kept i)) (vk (length (kept i)) ∷ [])) ⊛ ‵ (Waiting κk (ν₂ ∷ []) qk γk bk ok δ (kept i)))))
         (lends-on κk (ν₂ ∷ []) qk γk bk ok 𝓤 H A W (named 3) (named 1) (kept i)) $ await ! tt $ pick ! (λ δ₂.
         split ! $
-        -- next_turn(i, orders[i], t, working, kept), and what it says
+        -- next_turn(orders[i], t, working, kept), and what it says
         move ! (5 ∷ 2 ∷ []) $ join ! $
-        move ! (0 ∷ 3 ∷ 1 ∷ []) $ use3 W (raw (Next 𝓤 H A amem run .pre (to-next i ν₁ ν₂ δ₁ δ₂))) (goes-next i ν₁ ν₂ δ₁ δ₂ i-fits is (kn .valued)) $
+        move ! (0 ∷ 3 ∷ 1 ∷ []) $ use3 W (raw (Next 𝓤 H A amem run .pre (to-next i ν₁ ν₂ δ₁ δ₂))) (goes-next i ν₁ ν₂ δ₁ δ₂ is (kn .valued)) $
         calls-at ! (fmOf 𝓤 H (W .laws) 𝓣) (Next 𝓤 H A amem run) nexts (to-next i ν₁ ν₂ δ₁ δ₂)
-        (and-then ! (load ! (from ! (stop !)) (look ! 13 refl))
         (and-then ! (load ! (from ! (stop !)) (look ! 19 refl))
         (and-then ! (load ! (from ! (stop !)) (look ! 12 refl))
-        (and-then ! (load ! (from ! (stop !)) (look ! 21 refl)) (and-then ! (load ! (from ! (stop !)) (look ! 23 refl)) (no-more !)))))) (λ v.
+        (and-then ! (load ! (from ! (stop !)) (look ! 21 refl)) (and-then ! (load ! (from ! (stop !)) (look ! 23 refl)) (no-more !))))) (λ v.
         use1 W (later (some (λ (r : Turn). ((‵ (flft (ν₁ ∷ []) fullShare) ⊛ (‵ (flft (ν₂ ∷ []) fullShare) ⊛ ‵ ftrue)) ⊛ ‵ (Tu .own r (v ∷ []))) ⊛ raw
         (ensured 𝓤 H A next.ended (next.clauses 𝓤 H A amem run) (ν₁ ∷ [], (ν₂ ∷ [], tt)) (args i ν₁ ν₂ δ₁ δ₂) tt r)))) (id⊢ 𝓤 _) $ await ! tt $
         pick ! (λ r. split ! $
         move ! (1 ∷ []) $ use1 W (some (λ (us : Lasts). ‵ (lasts next.ended (ν₁ ∷ [], (ν₂ ∷ [], tt)) (args i ν₁ ν₂ δ₁ δ₂) us) ⊛ raw (fact 𝓤 (Said i r us)))) (id⊢ 𝓤 _) $
         pick ! (λ us. split ! $ move ! (1 ∷ []) $ heard ! (Said i r us) (λ e. fsplit ! $ move ! (1 ∷ []) $ fsplit ! $
-        move ! (1 ∷ []) $ fsplit ! $ move ! (1 ∷ []) $ fsplit ! $ move ! (1 ∷ []) $ fsplit ! $ move ! (2 ∷ []) $ fsplit ! $
-        move ! (1 ∷ []) $ feqL ! (λ lw. move ! (1 ∷ []) $ fsplit ! $ move ! (1 ∷ []) $ feqL ! (λ lk. move ! (6 ∷ []) $ split ! $
+        move ! (1 ∷ []) $ fsplit ! $ move ! (1 ∷ []) $ fsplit ! $ move ! (2 ∷ []) $ fsplit ! $
+        move ! (1 ∷ []) $ feqL ! (λ lw. move ! (1 ∷ []) $ fsplit ! $ move ! (1 ∷ []) $ feqL ! (λ lk. move ! (5 ∷ []) $ split ! $
         move ! (1 ∷ []) $ peeks ! Tu (Is Tu) (shows 𝓤 H A Tu) r (v ∷ []) (λ isr.
         -- t = what it gave
-        land ! (from ! (stop !)) (store ! 19 refl (LL.lawful U.the-type U′.the-laws 𝓤 H A W .typed r _ isr .0)) $
-        rewrite ! 19 (λ (u : Val). ‵ (fat fullShare U′.mir l7 0 u)) (ap only (LL.tells U.the-type U′.the-laws r (v ∷ []) isr) ∙ ap (λ (y : Turned). mT (y .turn)) e) refl $
+        land ! (from ! (stop !)) (store ! 18 refl (LL.lawful U.the-type U′.the-laws 𝓤 H A W .typed r _ isr .0)) $
+        rewrite ! 18 (λ (u : Val). ‵ (fat fullShare U′.mir l7 0 u)) (ap only (LL.tells U.the-type U′.the-laws r (v ∷ []) isr) ∙ ap (λ (y : Turned). mT (y .turn)) e) refl $
         -- the lifetimes end, and the tables come back
         move ! (1 ∷ []) $ split ! $ move ! (1 ∷ []) $ split ! $ move ! (2 ∷ []) $ lft-end ! tt $
-        move ! (0 ∷ 11 ∷ 5 ∷ []) $ use3 W (later (Ownw (us .1 .1 .1 .0) (length (working i)) ⊛ ‵ (flft κw qw)))
-        (comes-back κw (ν₁ ∷ []) qw γw bw ow 𝓤 H A W (named 2) (named 2) (working i) δ₁ (us .1 .1 .1 .0) (subst (Room u64) (sym (kn .working-long)) gw) lw) $ await ! tt $
-        split ! $ rewrite ! 0 (λ (j : ℕ). Ownw (us .1 .1 .1 .0) j) (sym lw) refl $ rewrite ! 0 (λ (l : List ℕ). Ownw l (length l)) (ap (λ (y : Turned). y .working) e) refl $
+        move ! (0 ∷ 10 ∷ 5 ∷ []) $ use3 W (later (Ownw (us .1 .1 .0) (length (working i)) ⊛ ‵ (flft κw qw)))
+        (comes-back κw (ν₁ ∷ []) qw γw bw ow 𝓤 H A W (named 2) (named 2) (working i) δ₁ (us .1 .1 .0) (subst (Room u64) (sym (kn .working-long)) gw) lw) $ await ! tt $
+        split ! $ rewrite ! 0 (λ (j : ℕ). Ownw (us .1 .1 .0) j) (sym lw) refl $ rewrite ! 0 (λ (l : List ℕ). Ownw l (length l)) (ap (λ (y : Turned). y .working) e) refl $
         move ! (2 ∷ []) $ lft-end ! tt $
-        move ! (0 ∷ 10 ∷ 5 ∷ []) $ use3 W (later (Ownk (us .1 .1 .1 .1 .0) (length (kept i)) ⊛ ‵ (flft κk qk)))
-        (comes-back κk (ν₂ ∷ []) qk γk bk ok 𝓤 H A W (named 3) (named 3) (kept i) δ₂ (us .1 .1 .1 .1 .0) (subst (Room u64) (sym (kn .kept-long)) gk) lk) $ await ! tt $
-        split ! $ rewrite ! 0 (λ (j : ℕ). Ownk (us .1 .1 .1 .1 .0) j) (sym lk) refl $ rewrite ! 0 (λ (l : List ℕ). Ownk l (length l)) (ap (λ (y : Turned). y .kept) e) refl $
+        move ! (0 ∷ 9 ∷ 5 ∷ []) $ use3 W (later (Ownk (us .1 .1 .1 .0) (length (kept i)) ⊛ ‵ (flft κk qk)))
+        (comes-back κk (ν₂ ∷ []) qk γk bk ok 𝓤 H A W (named 3) (named 3) (kept i) δ₂ (us .1 .1 .1 .0) (subst (Room u64) (sym (kn .kept-long)) gk) lk) $ await ! tt $
+        split ! $ rewrite ! 0 (λ (j : ℕ). Ownk (us .1 .1 .1 .0) j) (sym lk) refl $ rewrite ! 0 (λ (l : List ℕ). Ownk l (length l)) (ap (λ (y : Turned). y .kept) e) refl $
         -- answers[i] = t.result: where it begins, then the row is opened, written and closed
-        assigns ! (bin ! (load ! (from ! (stop !)) (look ! 20 refl)) (lit ! tt) (record { fits = offset-fits (size N) p i (gn .1) below-p })) (from ! (stop !))
-        (store ! 24 refl (tt, record { fits = offset-fits (size N) p i (gn .1) below-p })) $
-        assigns ! (bin ! (load ! (from ! (fld ! refl (stop !))) (look-in ! 14 (sub ! 0 refl (whole !)))) (load ! (from ! (stop !)) (look ! 24 refl)) tt) (from ! (stop !))
-        (init ! 31 refl (tt, tt)) $
-        rewrite ! 31 (λ (j : ℕ). ‵ (fat fullShare tyPtr l19 0 (vptr b′ j))) (sym (place-is (size N) o′ i)) refl $
-        move ! (32 ∷ []) $ fsplit ! $ move ! (1 ∷ []) $ fsplit ! $ move ! (0 ∷ 1 ∷ 35 ∷ []) $ opens-slice ! tt N (cur i .answers) b′ o′ $
+        assigns ! (bin ! (load ! (from ! (stop !)) (look ! 19 refl)) (lit ! tt) (record { fits = offset-fits (size N) p i (gn .1) below-p })) (from ! (stop !))
+        (store ! 23 refl (tt, record { fits = offset-fits (size N) p i (gn .1) below-p })) $
+        assigns ! (bin ! (load ! (from ! (fld ! refl (stop !))) (look-in ! 13 (sub ! 0 refl (whole !)))) (load ! (from ! (stop !)) (look ! 23 refl)) tt) (from ! (stop !))
+        (init ! 30 refl (tt, tt)) $
+        rewrite ! 30 (λ (j : ℕ). ‵ (fat fullShare tyPtr l19 0 (vptr b′ j))) (sym (place-is (size N) o′ i)) refl $
+        move ! (31 ∷ []) $ fsplit ! $ move ! (1 ∷ []) $ fsplit ! $ move ! (0 ∷ 1 ∷ 34 ∷ []) $ opens-slice ! tt N (cur i .answers) b′ o′ $
         elem-out ! N (Is N) (shows 𝓤 H A N) (LL.vals S.the-type S′.the-laws) (LL.tells S.the-type S′.the-laws) fullShare (cur i .answers) i noResult b′ o′ within (λ _.
-        assigns ! (of-opd ! (load ! (from ! (fld ! refl (stop !))) (look-in ! 26 (sub ! 1 refl (whole !))))) (from ! (hop ! (look ! 38 refl) (stop !)))
+        assigns ! (of-opd ! (load ! (from ! (fld ! refl (stop !))) (look-in ! 25 (sub ! 1 refl (whole !))))) (from ! (hop ! (look ! 37 refl) (stop !)))
         (store-raw ! 0 refl (LL.lawful S.the-type S′.the-laws 𝓤 H A W .typed (turn (suc i) .result) _ (given r v us e isr) .0)) $
         move ! (1 ∷ []) $ drop ! $
         owned ! N (Is N) (LL.makes S.the-type S′.the-plain 𝓤 H A) (turn (suc i) .result) _ (given r v us e isr) $
@@ -524,12 +552,12 @@ module _ {M : Type 1} (𝓤 : URA M) (H : Heap 𝓤) (A : Atoms 𝓤) (W : Given
         pureI ! (at-slice N (xN (cur (suc i) .answers)) (vN (length (cur (suc i) .answers)) ∷ [])) (tt, (tt, tt)) (refl, subst (Room N) (sym (same ∙ kn .answers)) gn) $
         fjoin ! $
         -- i += 1
-        assigns-last ! (bin ! (load ! (from ! (stop !)) (look ! 23 refl)) (lit ! tt) (record { fits = next-fits })) (from ! (stop !))
-        (store ! 23 refl (tt, record { fits = next-fits })) $
-        forget ! 26 refl $ forget ! 27 refl $ forget ! 28 refl $ forget ! 29 refl $ forget ! 30 refl $ forget ! 31 refl $ forget ! 32 refl $ forget ! 33 refl $ forget ! 34
-        refl $ rewrite ! 23 (λ (j : ℕ). ‵ (fat fullShare word l8 0 (vint w64 j))) (add-one i) refl $
-        keep ! (15 ∷ 16 ∷ 17 ∷ 18 ∷ 19 ∷ 20 ∷ 21 ∷ 22 ∷ 23 ∷ 24 ∷ 25 ∷ 26 ∷ 27 ∷ 28 ∷ 29 ∷ 30 ∷ 31 ∷ 32 ∷ 33 ∷ 34 ∷ 0 ∷ 1 ∷ 5 ∷ 6 ∷ 3 ∷ 4 ∷ 13 ∷ 14 ∷ 35 ∷ 36 ∷ 37 ∷ 38 ∷ 39 ∷
-        40 ∷ 41 ∷ 42 ∷ 43 ∷ 44 ∷ 45 ∷ 46 ∷ 47 ∷ 48 ∷ 49 ∷ 50 ∷ 51 ∷ 52 ∷ 53 ∷ 54 ∷ []) $ by ! (k (known-next i small kn r v us e isr is lw lk))))))))))))))))
+        assigns-last ! (bin ! (load ! (from ! (stop !)) (look ! 22 refl)) (lit ! tt) (record { fits = next-fits })) (from ! (stop !))
+        (store ! 22 refl (tt, record { fits = next-fits })) $
+        forget ! 25 refl $ forget ! 26 refl $ forget ! 27 refl $ forget ! 28 refl $ forget ! 29 refl $ forget ! 30 refl $ forget ! 31 refl $ forget ! 32 refl $ forget ! 33
+        refl $ rewrite ! 22 (λ (j : ℕ). ‵ (fat fullShare word l8 0 (vint w64 j))) (add-one i) refl $
+        keep ! (14 ∷ 15 ∷ 16 ∷ 17 ∷ 18 ∷ 19 ∷ 20 ∷ 21 ∷ 22 ∷ 23 ∷ 24 ∷ 25 ∷ 26 ∷ 27 ∷ 28 ∷ 29 ∷ 30 ∷ 31 ∷ 32 ∷ 33 ∷ 0 ∷ 1 ∷ 5 ∷ 6 ∷ 3 ∷ 4 ∷ 12 ∷ 13 ∷ 34 ∷ 35 ∷ 36 ∷ 37 ∷ 38 ∷
+        39 ∷ 40 ∷ 41 ∷ 42 ∷ 43 ∷ 44 ∷ 45 ∷ 46 ∷ 47 ∷ 48 ∷ 49 ∷ 50 ∷ 51 ∷ 52 ∷ 53 ∷ 54 ∷ 55 ∷ 56 ∷ 57 ∷ 58 ∷ 59 ∷ 60 ∷ 61 ∷ []) $ by ! (k (known-next i small kn r v us e isr is lw lk))))))))))))))))
       where
         below-n : i < n
         below-n = omega (arith, m-fits .0)
@@ -539,9 +567,6 @@ module _ {M : Type 1} (𝓤 : URA M) (H : Heap 𝓤) (A : Atoms 𝓤) (W : Given
 
         within : i < length (cur i .answers)
         within = omega (arith, kn .answers, m-fits .1)
-
-        i-fits : i < 2 ^ 64
-        i-fits = omega (arith, go .0, m-fits .0)
 
         next-fits : i + 1 < 2 ^ 64
         next-fits = omega (arith, go .0, m-fits .0)
@@ -560,7 +585,7 @@ module _ {M : Type 1} (𝓤 : URA M) (H : Heap 𝓤) (A : Atoms 𝓤) (W : Given
         assigns ! (bin ! (load ! (from ! (stop !)) (look ! 8 refl)) (load ! (from ! (stop !)) (look ! 6 refl)) tt) (from ! (stop !)) (init ! 11 refl (tt, tt)) $
         rewrite ! 11 (λ (t : Bool). ‵ (fat fullShare tyBool l11 0 (vbool t))) (fails (ltb m m) (λ a. lt-irrefl m (ltb→lt m m a))) refl $
         -- the lengths again, and closing(orders.len(), answers.len(), t.session)
-        leaves-loop ! (load ! (from ! (stop !)) (look ! 11 refl)) $ exec ! C Λ En pieces.t-7 (atRet En Post) $
+        leaves-loop ! (load ! (from ! (stop !)) (look ! 11 refl)) $ exec ! C Λ En pieces.t-11 (atRet En Post) $
         assigns ! (of-opd ! (load ! (from ! (fld ! refl (stop !))) (look-in ! 1 (sub ! 1 refl (whole !))))) (from ! (stop !)) (store ! 9 refl (tt, record { fits = go .0 })) $
         assigns ! (of-opd ! (load ! (from ! (fld ! refl (stop !))) (look-in ! 2 (sub ! 1 refl (whole !))))) (from ! (stop !)) (store ! 10 refl (tt, record { fits = gn .0 })) $
         nothing ! $
@@ -580,8 +605,9 @@ module _ {M : Type 1} (𝓤 : URA M) (H : Heap 𝓤) (A : Atoms 𝓤) (W : Given
         forget ! 11 refl $ forget ! 12 refl $ forget ! 13 refl $
         move ! (2 ∷ 30 ∷ []) $ free1 ! $ move ! (2 ∷ 29 ∷ []) $ free1 ! $ move ! (2 ∷ 28 ∷ []) $ free1 ! $ move ! (2 ∷ 27 ∷ []) $ free1 ! $ move ! (2 ∷ 26 ∷ []) $ free1 ! $
         move ! (2 ∷ 25 ∷ []) $ free1 ! $ move ! (2 ∷ 24 ∷ []) $ free1 ! $ move ! (2 ∷ 23 ∷ []) $ free1 ! $ move ! (2 ∷ 22 ∷ []) $ free1 ! $ move ! (2 ∷ 21 ∷ []) $ free1 ! $
-        move ! (2 ∷ 20 ∷ []) $ free1 ! $ move ! (2 ∷ 19 ∷ []) $ free1 ! $ move ! (2 ∷ 18 ∷ []) $ free1 ! $ move ! (2 ∷ 17 ∷ []) $ free1 ! $ move ! (2 ∷ 16 ∷ []) $ free1 ! $
-        move ! (2 ∷ 15 ∷ []) $ free1 ! $ move ! (2 ∷ 14 ∷ []) $ free1 ! $ move ! (2 ∷ 13 ∷ []) $ free1 ! $ move ! (2 ∷ 12 ∷ []) $ free1 ! $ move ! (2 ∷ 11 ∷ []) $ free1 ! $
+        move ! (2 ∷ 20 ∷ []) $ free1 ! $ move ! (28 ∷ 32 ∷ []) $ free1 ! $ move ! (28 ∷ 31 ∷ []) $ free1 ! $ move ! (28 ∷ 30 ∷ []) $ free1 ! $ move ! (28 ∷ 29 ∷ []) $ free1 ! $
+        move ! (2 ∷ 19 ∷ []) $ free1 ! $ move ! (2 ∷ 18 ∷ []) $ free1 ! $ move ! (2 ∷ 17 ∷ []) $ free1 ! $ move ! (2 ∷ 16 ∷ []) $ free1 ! $ move ! (2 ∷ 15 ∷ []) $ free1 ! $
+        move ! (2 ∷ 14 ∷ []) $ free1 ! $ move ! (2 ∷ 13 ∷ []) $ free1 ! $ move ! (2 ∷ 12 ∷ []) $ free1 ! $ move ! (2 ∷ 11 ∷ []) $ free1 ! $
         free0 ! $ keep ! (2 ∷ 3 ∷ 4 ∷ 5 ∷ 6 ∷ 7 ∷ 8 ∷ 9 ∷ 0 ∷ []) $ by ! (exits r v e kn gs)))))
 
     below : (t i : ℕ) → suc i + t ≡ m → Known (suc i) → ent 𝓤 (⋆ 𝓤 H A (At (suc i))) (Below (suc t))
@@ -608,7 +634,7 @@ module _ {M : Type 1} (𝓤 : URA M) (H : Heap 𝓤) (A : Atoms 𝓤) (W : Given
         (via 𝓤 (guard 𝓤 (Facts m 0) (⋆ 𝓤 H A (At 0))) (guardI 𝓤 (Facts m 0) (⋆ 𝓤 H A (At 0)) (zero-add m, kn)) (exI 𝓤 (λ (j : ℕ). guard 𝓤 (Facts m j) (⋆ 𝓤 H A (At j))) 0))
         (loop-rule 𝓤 H (W .laws) 𝓣 _<_ (Nat·lt-wfRel .wf) En pieces.turn-1 Rest Inv turns m)
 
-    looped : Known 0 → Sq W (At 0) (runs C Λ En pieces.t-6 (atRet En Post))
+    looped : Known 0 → Sq W (At 0) (runs C Λ En pieces.t-10 (atRet En Post))
     looped kn = by ! (loops kn)
 
   -- the MIR, up to the loop
@@ -619,43 +645,72 @@ module _ {M : Type 1} (𝓤 : URA M) (H : Heap 𝓤) (A : Atoms 𝓤) (W : Given
   walk 𝓣 takes begins nexts closes go gn gs gw gk =
       qed W ((‵ (flft κ q) ⊛ (‵ (flft κ′ q′) ⊛ (‵ (flft κw qw) ⊛ (‵ (flft κk qk) ⊛ ‵ ftrue))))
       ∷ ‵ (owns (ShrSlice (named 0) κ O ∷ MutSlice (named 1) κ′ N ∷ Se ∷ MutSlice (named 2) κw u64 ∷ MutSlice (named 3) κk u64 ∷ []) x at) ∷ []) ∵
-      enter ! (𝓣 .C) (𝓣 .Λ) code.function handed _ $ alloc1 ! (λ l0. alloc1 ! (λ l1. alloc1 ! (λ l2. alloc1 ! (λ l3.
-      alloc1 ! (λ l4. alloc1 ! (λ l5. alloc1 ! (λ l6. alloc1 ! (λ l7. alloc1 ! (λ l8. alloc1 ! (λ l9. alloc1 ! (λ l10.
-      alloc1 ! (λ l11. alloc1 ! (λ l12. alloc1 ! (λ l13. alloc1 ! (λ l14. alloc1 ! (λ l15. alloc1 ! (λ l16.
-      alloc1 ! (λ l17. alloc1 ! (λ l18. alloc1 ! (λ l19. alloc0 ! $ params1 ! $ pass1 ! (init ! 36 refl (tt, (tt, (record { fits = go .0 }, tt)))) $
-      pass1 ! (init ! 34 refl (tt, (tt, (record { fits = gn .0 }, tt)))) $ pass1 ! (init ! 32 refl (LL.lawful Z.the-type Z′.the-laws 𝓤 H A W .typed s _ gs .0)) $
-      pass1 ! (init ! 30 refl (tt, (tt, (record { fits = gw .0 }, tt)))) $ pass1 ! (init ! 28 refl (tt, (tt, (record { fits = gk .0 }, tt)))) $
-      pass0 ! $
-      assigns ! (of-opd ! (load ! (from ! (fld ! refl (stop !))) (look-in ! 36 (sub ! 1 refl (whole !))))) (from ! (stop !)) (init ! 20 refl (tt, record { fits = go .0 })) $
-      assigns ! (of-opd ! (load ! (from ! (fld ! refl (stop !))) (look-in ! 34 (sub ! 1 refl (whole !))))) (from ! (stop !)) (init ! 18 refl (tt, record { fits = gn .0 })) $
+      enter ! (𝓣 .C) (𝓣 .Λ) code.function handed _ $ alloc1 ! (λ l0. alloc1 ! (λ l1. alloc1 ! (λ l2. alloc1 ! (λ l3. alloc1 ! (λ l4. alloc1 ! (λ l5.
+      alloc1 ! (λ l6. alloc1 ! (λ l7. alloc1 ! (λ l8. alloc1 ! (λ l9. alloc1 ! (λ l10. alloc1 ! (λ a0. alloc1 ! (λ a1. alloc1 ! (λ a2. alloc1 ! (λ a3.
+      alloc1 ! (λ l11. alloc1 ! (λ l12. alloc1 ! (λ l13. alloc1 ! (λ l14. alloc1 ! (λ l15. alloc1 ! (λ l16. alloc1 ! (λ l17. alloc1 ! (λ l18. alloc1 !
+      (λ l19. alloc0 ! $ params1 ! $
+      pass1 ! (init ! 44 refl (tt, (tt, (record { fits = go .0 }, tt)))) $ pass1 ! (init ! 42 refl (tt, (tt, (record { fits = gn .0 }, tt)))) $
+      pass1 ! (init ! 40 refl (LL.lawful Z.the-type Z′.the-laws 𝓤 H A W .typed s _ gs .0)) $
+      pass1 ! (init ! 38 refl (tt, (tt, (record { fits = gw .0 }, tt)))) $ pass1 ! (init ! 36 refl (tt, (tt, (record { fits = gk .0 }, tt)))) $ pass0 ! $
+      assigns ! (of-opd ! (load ! (from ! (fld ! refl (stop !))) (look-in ! 44 (sub ! 1 refl (whole !))))) (from ! (stop !)) (init ! 28 refl (tt, record { fits = go .0 })) $
+      assigns ! (of-opd ! (load ! (from ! (fld ! refl (stop !))) (look-in ! 42 (sub ! 1 refl (whole !))))) (from ! (stop !)) (init ! 26 refl (tt, record { fits = gn .0 })) $
       -- n = taken(..)
       nothing ! $ use1 W (raw (Taken 𝓤 H A amem run .pre to-taken)) (goes-taken (go .0) (gn .0)) $
       calls-at ! (fmOf 𝓤 H (W .laws) 𝓣) (Taken 𝓤 H A amem run) takes to-taken
-      (and-then ! (load ! (from ! (stop !)) (look ! 21 refl)) (and-then ! (load ! (from ! (stop !)) (look ! 19 refl)) (no-more !))) (λ v.
+      (and-then ! (load ! (from ! (stop !)) (look ! 29 refl)) (and-then ! (load ! (from ! (stop !)) (look ! 27 refl)) (no-more !))) (λ v.
       use1 W (later (some (λ (r : ℕ). (‵ ftrue ⊛ ‵ (usize .own r (v ∷ []))) ⊛ raw (ensured 𝓤 H A taken.ended (taken.clauses 𝓤 H A amem run) tt (n, (p, tt)) tt r)))) (id⊢ 𝓤 _) $
       await ! tt $ pick ! (λ r. split ! $
       move ! (1 ∷ []) $ use1 W (raw (fact 𝓤 (r ≡ m))) (exE 𝓤 _ (λ us. snd∗ 𝓤 (sem 𝓤 H A (lasts taken.ended tt (n, (p, tt)) us)) (fact 𝓤 (r ≡ m)))) $
       heard ! (r ≡ m) (λ e. split ! $ move ! (1 ∷ []) $ peeks ! usize (Is usize) (shows 𝓤 H A usize) r (v ∷ []) (λ is.
-      land ! (from ! (stop !)) (init ! 28 refl (uint-lawful 𝓤 H A W w64 .typed r _ is .0)) $
-      rewrite ! 28 (λ (u : Val). ‵ (fat fullShare word l6 0 u)) (ap only (is .0) ∙ ap (vint w64) e) refl $
-      -- t = begun(x)
-      nothing ! $ use1 W (raw (Begun 𝓤 H A amem run .pre to-begun)) (goes-begun gs) $
-      calls-at ! (fmOf 𝓤 H (W .laws) 𝓣) (Begun 𝓤 H A amem run) begins to-begun (and-then ! (load ! (from ! (stop !)) (look ! 35 refl)) (no-more !)) (λ v′.
-      use1 W (later (some (λ (t : Turn). (‵ ftrue ⊛ ‵ (Tu .own t (v′ ∷ []))) ⊛ raw (ensured 𝓤 H A begun.ended (begun.clauses 𝓤 H A amem run) tt (s, tt) tt t)))) (id⊢ 𝓤 _) $
-      await ! tt $ pick ! (λ t. split ! $
-      move ! (1 ∷ []) $ use1 W (raw (fact 𝓤 (t ≡ turn 0))) (exE 𝓤 _ (λ us. snd∗ 𝓤 (sem 𝓤 H A (lasts begun.ended tt (s, tt) us)) (fact 𝓤 (t ≡ turn 0)))) $
+      land ! (from ! (stop !)) (init ! 36 refl (uint-lawful 𝓤 H A W w64 .typed r _ is .0)) $
+      rewrite ! 36 (λ (u : Val). ‵ (fat fullShare word l6 0 u)) (ap only (is .0) ∙ ap (vint w64) e) refl $
+      -- what came in, part by part
+      move ! (51 ∷ []) $ fsplit ! $ move ! (1 ∷ []) $ fsplit ! $ move ! (1 ∷ []) $ fsplit ! $ move ! (1 ∷ []) $ fsplit ! $ move ! (1 ∷ []) $ fsplit ! $
+      move ! (56 ∷ []) $ split ! $ move ! (1 ∷ []) $ split ! $ move ! (1 ∷ []) $ split ! $ move ! (1 ∷ []) $ split ! $
+      -- working and kept as slices of their own, each lent on to be read for a lifetime of the call
+      assigns ! (addr ! (from ! (fld ! refl (hop ! (look-in ! 51 (sub ! 0 refl (whole !))) (stop !))))) (from ! (stop !)) (init ! 37 refl (tt, tt)) $
+      assigns ! (agg ! (and-then ! (load ! (from ! (stop !)) (look ! 37 refl))
+      (and-then ! (load ! (from ! (fld ! refl (stop !))) (look-in ! 51 (sub ! 1 refl (whole !)))) (no-more !)))) (from ! (stop !))
+      (init ! 35 refl (tt, (tt, (record { fits = gw .0 }, tt)))) $
+      assigns ! (addr ! (from ! (fld ! refl (hop ! (look-in ! 49 (sub ! 0 refl (whole !))) (stop !))))) (from ! (stop !)) (init ! 33 refl (tt, tt)) $
+      assigns ! (agg ! (and-then ! (load ! (from ! (stop !)) (look ! 33 refl))
+      (and-then ! (load ! (from ! (fld ! refl (stop !))) (look-in ! 49 (sub ! 1 refl (whole !)))) (no-more !)))) (from ! (stop !))
+      (init ! 31 refl (tt, (tt, (record { fits = gk .0 }, tt)))) $
+      lft-new ! tt (λ ν₁.
+      move ! (8 ∷ 3 ∷ []) $ use2 W (later (some (λ (δ : GName). ‵ (ShrSlice (named 0) (ν₁ ∷ []) u64 .own (xw δ ws) (vw (length ws) ∷ [])) ⊛ ‵ (Sharing κw (ν₁ ∷ []) qw γw bw ow ws))))
+      (shares-on κw (ν₁ ∷ []) qw γw bw ow 𝓤 H A W (named 2) (named 0) ws) $ await ! tt $ pick ! (λ δ₁.
+      split ! $ lft-new ! tt (λ ν₂.
+      move ! (8 ∷ 4 ∷ []) $ use2 W (later (some (λ (δ : GName). ‵ (ShrSlice (named 1) (ν₂ ∷ []) u64 .own (xk δ ks) (vk (length ks) ∷ [])) ⊛ ‵ (Sharing κk (ν₂ ∷ []) qk γk bk ok ks))))
+      (shares-on κk (ν₂ ∷ []) qk γk bk ok 𝓤 H A W (named 3) (named 1) ks) $ await ! tt $ pick ! (λ δ₂.
+      split ! $
+      -- t = begun(x, working, kept)
+      move ! (5 ∷ 2 ∷ []) $ join ! $
+      move ! (0 ∷ 3 ∷ 1 ∷ []) $ use3 W (raw (Begun 𝓤 H A amem run .pre (to-begun ν₁ ν₂ δ₁ δ₂))) (goes-begun ν₁ ν₂ δ₁ δ₂ gs) $
+      calls-at ! (fmOf 𝓤 H (W .laws) 𝓣) (Begun 𝓤 H A amem run) begins (to-begun ν₁ ν₂ δ₁ δ₂)
+      (and-then ! (load ! (from ! (stop !)) (look ! 52 refl))
+      (and-then ! (load ! (from ! (stop !)) (look ! 34 refl)) (and-then ! (load ! (from ! (stop !)) (look ! 30 refl)) (no-more !)))) (λ v′.
+      use1 W (later (some (λ (t : Turn). ((‵ (flft (ν₁ ∷ []) fullShare) ⊛ (‵ (flft (ν₂ ∷ []) fullShare) ⊛ ‵ ftrue)) ⊛ ‵ (Tu .own t (v′ ∷ []))) ⊛ raw
+      (ensured 𝓤 H A begun.ended (begun.clauses 𝓤 H A amem run) (ν₁ ∷ [], (ν₂ ∷ [], tt)) (begun-args ν₁ ν₂ δ₁ δ₂) tt t)))) (id⊢ 𝓤 _) $ await ! tt $
+      pick ! (λ t. split ! $
+      move ! (1 ∷ []) $ use1 W (raw (fact 𝓤 (t ≡ turn 0)))
+      (exE 𝓤 _ (λ us. snd∗ 𝓤 (sem 𝓤 H A (lasts begun.ended (ν₁ ∷ [], (ν₂ ∷ [], tt)) (begun-args ν₁ ν₂ δ₁ δ₂) us)) (fact 𝓤 (t ≡ turn 0)))) $
       heard ! (t ≡ turn 0) (λ e′. split ! $ move ! (1 ∷ []) $ peeks ! Tu (Is Tu) (shows 𝓤 H A Tu) t (v′ ∷ []) (λ is′.
-      land ! (from ! (stop !)) (init ! 28 refl (LL.lawful U.the-type U′.the-laws 𝓤 H A W .typed t _ is′ .0)) $
-      rewrite ! 28 (λ (u : Val). ‵ (fat fullShare U′.mir l7 0 u)) (ap only (LL.tells U.the-type U′.the-laws t (v′ ∷ []) is′) ∙ ap mT e′) refl $
+      land ! (from ! (stop !)) (init ! 45 refl (LL.lawful U.the-type U′.the-laws 𝓤 H A W .typed t _ is′ .0)) $
+      rewrite ! 45 (λ (u : Val). ‵ (fat fullShare U′.mir l7 0 u)) (ap only (LL.tells U.the-type U′.the-laws t (v′ ∷ []) is′) ∙ ap mT e′) refl $
+      -- the lifetimes end, and the tables come back
+      move ! (1 ∷ []) $ split ! $ move ! (1 ∷ []) $ split ! $ move ! (2 ∷ []) $ lft-end ! tt $
+      move ! (0 ∷ 5 ∷ []) $ use2 W (later (Ownw ws (length ws) ⊛ ‵ (flft κw qw))) (shared-back κw (ν₁ ∷ []) qw γw bw ow 𝓤 H A W (named 2) (named 2) ws gw) $ await ! tt $
+      split ! $ move ! (2 ∷ []) $ lft-end ! tt $
+      move ! (0 ∷ 5 ∷ []) $ use2 W (later (Ownk ks (length ks) ⊛ ‵ (flft κk qk))) (shared-back κk (ν₂ ∷ []) qk γk bk ok 𝓤 H A W (named 3) (named 3) ks gk) $ await ! tt $
+      split ! $
       -- i = 0, and the loop
-      assigns ! (of-opd ! (lit ! tt)) (from ! (stop !)) (init ! 26 refl (tt, record { fits = lit< tt })) $ move ! (45 ∷ []) $ fsplit ! $
-      move ! (1 ∷ []) $ fsplit ! $ move ! (1 ∷ []) $ fsplit ! $ move ! (1 ∷ []) $ fsplit ! $ move ! (1 ∷ []) $ fsplit ! $
-      move ! (50 ∷ []) $ split ! $ move ! (1 ∷ []) $ split ! $ move ! (1 ∷ []) $ split ! $ move ! (1 ∷ []) $ split ! $
-      keep ! (53 ∷ 51 ∷ 49 ∷ 47 ∷ 45 ∷ 43 ∷ 41 ∷ 39 ∷ 37 ∷ 35 ∷ 33 ∷ 31 ∷ 29 ∷ 27 ∷ 25 ∷ 23 ∷ 21 ∷ 19 ∷ 17 ∷ 15 ∷ 9 ∷ 3 ∷ 7 ∷ 2 ∷ 5 ∷ 0 ∷ 10 ∷ 4 ∷ 54 ∷ 52 ∷ 50 ∷ 48 ∷ 46 ∷ 44 ∷
-      42 ∷ 40 ∷ 38 ∷ 36 ∷ 34 ∷ 32 ∷ 30 ∷ 28 ∷ 26 ∷ 24 ∷ 22 ∷ 20 ∷ 18 ∷ 16 ∷ []) $
-      (looped 𝓣 nexts closes go gn gs gw gk l0 l1 l2 l3 l4 l5 l6 l7 l8 l9 l10 l11 l12 l13 l14 l15 l16 l17 l18 l19
-      (known-first 𝓣 nexts closes go gn gs gw gk l0 l1 l2 l3 l4 l5 l6 l7 l8 l9 l10 l11 l12 l13 l14 l15 l16 l17 l18 l19
-      (subst (λ (t : Turn). Is Tu t (mT t ∷ [])) e′ (told-value t v′ is′))))))))))))))))))))))))))))))))
+      assigns ! (of-opd ! (lit ! tt)) (from ! (stop !)) (init ! 45 refl (tt, record { fits = lit< tt })) $
+      forget ! 39 refl $ forget ! 37 refl $ forget ! 35 refl $ forget ! 33 refl $
+      keep ! (61 ∷ 59 ∷ 57 ∷ 55 ∷ 53 ∷ 51 ∷ 49 ∷ 47 ∷ 45 ∷ 43 ∷ 41 ∷ 31 ∷ 29 ∷ 27 ∷ 25 ∷ 23 ∷ 21 ∷ 19 ∷ 17 ∷ 15 ∷ 11 ∷ 7 ∷ 2 ∷ 3 ∷ 0 ∷ 1 ∷ 12 ∷ 8 ∷ 62
+      ∷ 60 ∷ 58 ∷ 56 ∷ 54 ∷ 52 ∷ 50 ∷ 48 ∷ 46 ∷ 44 ∷ 42 ∷ 32 ∷ 30 ∷ 28 ∷ 26 ∷ 24 ∷ 22 ∷ 20 ∷ 18 ∷ 16 ∷ 39 ∷ 37 ∷ 35 ∷ 33 ∷ 40 ∷ 38 ∷ 36 ∷ 34 ∷ []) $
+      (looped 𝓣 nexts closes go gn gs gw gk l0 l1 l2 l3 l4 l5 l6 l7 l8 l9 l10 l11 l12 l13 l14 l15 l16 l17 l18 l19 a0 a1 a2 a3
+      (known-first 𝓣 nexts closes go gn gs gw gk l0 l1 l2 l3 l4 l5 l6 l7 l8 l9 l10 l11 l12 l13 l14 l15 l16 l17 l18 l19 a0 a1 a2 a3
+      (subst (λ (t : Turn). Is Tu t (mT t ∷ [])) e′ (told-value t v′ is′))))))))))))))))))))))))))))))))))))))))
 
 -- ---- taken to the contract
 
