@@ -320,7 +320,7 @@ CHIP_MUST_HOLD(result_is_8_bytes, sizeof(chip_result) == 8 && offsetof(chip_resu
  * A tray is no transaction. A refusal in it stops nothing: the next order comes all the same, a commit too. And no order can
  * take the value of an earlier one, so what a creation gives is of use in the next tray.
  *
- * Tables and session are judged once, at the first order: what a call leaves of a sound state is sound, which is proved.
+ * Tables and session are judged once, before the first order: what a call leaves of a sound state is sound, which is proved.
  * If they are not sound, the tray is done, and each of its orders has CHIP_SY_ERR, value 0 and place 0.
  *
  * All of a plate, by chip_do_tray below; the answers have the room, so it is done, and each of them says how its order went:
