@@ -1,5 +1,7 @@
 // The machine without the test of soundness, for the bench alone: what a call costs once the state is known to be sound. The
 // lines of `core` stand here themselves: a function for C that hands on to it copies the answer once more.
+#![tactic(auto)]
+
 ghost use Rattle.std.specs.Prelude.{◌≡◌};
 ghost use Rattle.session.specs.Step.{outcome, core as core_of};
 

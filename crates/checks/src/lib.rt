@@ -1,5 +1,7 @@
 // What is asked before an operation is done: which one a number names, the conditions of the refusals, what several
 // operations ask alike, and the gate.
+#![tactic(auto)]
+
 pub mod conditions;
 pub mod gate;
 pub mod operations;

@@ -2,7 +2,7 @@
 ghost use Rattle.std.specs.Prelude.{◌≡◌, ◌≤◌};
 ghost use Rattle.checks.specs.Operations.{operation_of};
 
-#[derive(Drop)]
+#[derive(Clone, Copy)]
 pub enum Operation {
     Unlisted,
     // Asks that no session is open.
@@ -15,7 +15,7 @@ pub enum Operation {
     Writer(Writer),
 }
 
-#[derive(Drop)]
+#[derive(Clone, Copy)]
 pub enum InSession {
     CloseSession,
     OpenRepository,
@@ -32,7 +32,7 @@ pub enum InSession {
     IsSubtype,
 }
 
-#[derive(Drop)]
+#[derive(Clone, Copy)]
 pub enum Reader {
     ReadOnlyAccess,
     EndAccess,
@@ -40,7 +40,7 @@ pub enum Reader {
     Test,
 }
 
-#[derive(Drop)]
+#[derive(Clone, Copy)]
 pub enum Writer {
     CreateModel,
     DeleteModel,

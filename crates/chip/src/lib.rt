@@ -1,5 +1,7 @@
 // The face for C and Rust, a call here and a tray beside it: include/chip.h declares both. Numbers pass as themselves, the
 // session and the answer by value, a table or a row as a pointer and a length.
+#![tactic(auto)]
+
 ghost use Rattle.std.specs.Prelude.{◌≡◌};
 ghost use Rattle.session.specs.Step.{outcome, step};
 

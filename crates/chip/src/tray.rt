@@ -12,7 +12,7 @@ use state::state::{Answer, Session, answer_of};
 
 // An operation: its number and its arguments.
 #[repr(C)]
-#[derive(Drop)]
+#[derive(Clone, Copy)]
 pub struct Order {
     pub op: u32,
     pub a: u32,
@@ -22,7 +22,7 @@ pub struct Order {
 
 // What it was answered; the session goes on to the next one.
 #[repr(C)]
-#[derive(Drop)]
+#[derive(Clone, Copy)]
 pub struct Result {
     pub refusal: u16,
     pub place: u16,
@@ -30,7 +30,7 @@ pub struct Result {
 }
 
 // What goes from order to order: the session, the last result, and whether the tray's state was found sound.
-#[derive(Drop)]
+#[derive(Clone, Copy)]
 pub struct Turn {
     pub session: Session,
     pub result: Result,

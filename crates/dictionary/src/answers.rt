@@ -1,14 +1,14 @@
 // What the dictionary answers with.
 
 // A type's parent.
-#[derive(Drop)]
+#[derive(Clone, Copy)]
 pub enum Parent {
     Root,
     Is(u32),
 }
 
 // Attribute k of a type: it has none such; I, a whole number; or R t, which names an instance whose type is t or below it.
-#[derive(Drop)]
+#[derive(Clone, Copy)]
 pub enum Attribute {
     Lacking,
     Whole,
@@ -16,7 +16,7 @@ pub enum Attribute {
 }
 
 // A type's name: `len` bytes, and 0 in the places past its end.
-#[derive(Drop)]
+#[derive(Clone, Copy)]
 pub struct Name {
     pub len: u32,
     pub bytes: [u8; 10],

@@ -1,5 +1,7 @@
 // The dictionary of types: the table of the page, and what follows from it. A type is its number. Every function
 // answers every number, one that is no type too.
+#![tactic(auto)]
+
 pub mod answers;
 pub mod kinds;
 pub mod pairs;

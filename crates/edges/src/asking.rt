@@ -6,7 +6,7 @@ use state::state::{Session, closed_state};
 use words::layout::WORDS;
 
 // All that a reader holds between two calls.
-#[derive(Drop)]
+#[derive(Clone, Copy)]
 pub struct Chip {
     pub session: Session,
     pub working: [u64; WORDS],
@@ -52,7 +52,7 @@ pub fn lead(chip: Chip, op: u32, a: u32, b: u32, c: u32) -> Chip {
 }
 
 // Which argument of a call counts up.
-#[derive(Drop)]
+#[derive(Clone, Copy)]
 pub enum Counting {
     A,
     B,

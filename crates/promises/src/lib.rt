@@ -1,1 +1,2 @@
 // Theorems about the session machine's definition of one call, and no code.
+#![tactic(auto)]

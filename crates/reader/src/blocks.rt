@@ -21,7 +21,7 @@ pub const OUT: usize = (RECORDS + 2) * LINE;
 
 // What is carried from record to record: the session, how many records are done, the next position in the output, and
 // whether the program goes on.
-#[derive(Drop)]
+#[derive(Clone, Copy)]
 pub struct Run {
     pub session: Session,
     pub done: u64,

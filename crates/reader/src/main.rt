@@ -1,5 +1,7 @@
 // The reader's program: records on standard input, a line for each on standard output as soon as it is whole. The start
 // is fresh, so the state stays sound, and the machine is called without the judgement of what comes in.
+#![tactic(auto)]
+
 mod blocks;
 mod reads;
 

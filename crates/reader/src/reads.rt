@@ -9,7 +9,7 @@ use crate::blocks::{Run, ended, run_block};
 use records::decoding::SIZE;
 
 // The run, and how many bytes are held.
-#[derive(Drop)]
+#[derive(Clone, Copy)]
 pub struct Stand {
     pub run: Run,
     pub held: usize,

@@ -9,7 +9,7 @@ const FIRST_MARK: u8 = 0x53;
 
 const SECOND_MARK: u8 = 0x44;
 
-#[derive(Drop)]
+#[derive(Clone, Copy)]
 pub struct Record {
     pub op: u32,
     pub a: u32,
@@ -17,7 +17,7 @@ pub struct Record {
     pub c: u32,
 }
 
-#[derive(Drop)]
+#[derive(Clone, Copy)]
 pub enum Found {
     Whole(Record),
     Bad,

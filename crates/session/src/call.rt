@@ -34,7 +34,7 @@ fn settle(tables: Tables, working: &mut [u64], kept: &mut [u64])
 }
 
 // What an operation leaves but the tables and the log.
-#[derive(Drop)]
+#[derive(Clone, Copy)]
 pub struct Served {
     pub refusal: u32,
     pub value: u32,
@@ -73,7 +73,7 @@ pub fn serve(
 }
 
 // What an operation answers where its state was lent.
-#[derive(Drop)]
+#[derive(Clone, Copy)]
 pub struct Reply {
     pub refusal: u32,
     pub value: u32,

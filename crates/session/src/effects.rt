@@ -11,7 +11,7 @@ use words::layout::{Kind, count};
 use words::search::next_free;
 
 // What becomes of the tables.
-#[derive(Drop)]
+#[derive(Clone, Copy)]
 pub enum Tables {
     Stay,
     // Working is copied to kept.
@@ -23,7 +23,7 @@ pub enum Tables {
 }
 
 // `refusal` is done, or why nothing is.
-#[derive(Drop)]
+#[derive(Clone, Copy)]
 pub struct Effect {
     pub refusal: u32,
     pub value: u32,

@@ -1,4 +1,6 @@
 // The session machine: a row for each operation, its checks and its effect, and the one call.
+#![tactic(auto)]
+
 pub mod answers;
 pub mod call;
 mod effects;

@@ -1,4 +1,6 @@
 // What a session holds between calls, its state and its log of events, and what a refusal says.
+#![tactic(auto)]
+
 pub mod events;
 pub mod lent;
 pub mod refusals;

@@ -17,7 +17,7 @@ pub const ABORTED: u32 = 3;
 
 // What the operations see and change. The sets have bit m for model m, bit r for repository r.
 #[repr(C)]
-#[derive(Drop)]
+#[derive(Clone, Copy)]
 pub struct State {
     pub repositories: u64,
     pub ro: u64,
@@ -30,7 +30,7 @@ pub struct State {
 // A refusal, its place and the operation that it was given to. The last two bytes carry nothing: they have a name because
 // the compiler copies structs without a hole in few moves, and others field by field.
 #[repr(C)]
-#[derive(Drop)]
+#[derive(Clone, Copy)]
 pub struct Event {
     pub op: u32,
     pub refusal: u8,
@@ -40,7 +40,7 @@ pub struct Event {
 
 // The events that are recorded, oldest first: the first `count` slots.
 #[repr(C)]
-#[derive(Drop)]
+#[derive(Clone, Copy)]
 pub struct Log {
     pub events: [Event; 16],
     pub count: u64,
@@ -48,14 +48,14 @@ pub struct Log {
 
 // The log stands first, since a session is copied quickest so.
 #[repr(C)]
-#[derive(Drop)]
+#[derive(Clone, Copy)]
 pub struct Session {
     pub log: Log,
     pub state: State,
 }
 
 #[repr(C)]
-#[derive(Drop)]
+#[derive(Clone, Copy)]
 pub struct Answer {
     pub refusal: u16,
     pub place: u16,

@@ -8,7 +8,7 @@ use words::entries::make;
 use words::layout::Kind;
 
 // A change, as an operation says it.
-#[derive(Drop)]
+#[derive(Clone, Copy)]
 pub enum Change {
     // Entry n of a kind is made with this first word.
     Made(Kind, u32, u64),

@@ -15,7 +15,7 @@ use words::sets;
 
 // Bit j of low for instance j below 64, of high for instance 64 + j. A table that is not sound may
 // refer past the last instance: beyond is the one number there that goes, 0 if none does.
-#[derive(Drop)]
+#[derive(Clone, Copy)]
 pub struct Going {
     pub low: u64,
     pub high: u64,

@@ -11,7 +11,7 @@ use words::fields::{is_label, schema_in};
 use words::layout::{Kind, base, count, place, stride};
 
 // What a test of entries answers: the live ones, if all is sound.
-#[derive(Drop)]
+#[derive(Clone, Copy)]
 pub enum Tested {
     Sound(Live),
     Unsound,

@@ -5,7 +5,7 @@ ghost use Rattle.tables.specs.Quick.Live.{no_live, with_live, of_schema, within,
 use dictionary::schema;
 use words::sets::{BITS, EMPTY, with};
 
-#[derive(Drop)]
+#[derive(Clone, Copy)]
 pub struct Live {
     pub first: u64,
     pub second: u64,
