@@ -61,7 +61,7 @@ unfoldable pub schema_of : ℕ → ℕ
 schema_of t = (row_of t).schema
 
 unfoldable pub own_of : ℕ → List Attribute
-own_of t = (row_of t).own_val
+own_of t = (row_of t).own
 
 -- the bytes of a text of plain letters
 unfoldable pub bytes_of : String → List ℕ

@@ -1,0 +1,12 @@
+-- The byte goes right behind the digits.
+use native.Mathlib.Omega.{arith}
+use mathlib.Core.Path.{refl}
+use Rattle.records.specs.Laws.Writing.{number_ended}
+use borrow.Author.Rules.{rules}
+use Rattle.records.proofs.lines.field.Goals as goal
+
+pub returns : goal.returns
+returns c =
+    let args = c.args in
+    let pre = c.requires in
+    (number_ended args.out.now args.at args.k args.n args.stop pre.0 (omega arith) c.spell.ensures, refl)

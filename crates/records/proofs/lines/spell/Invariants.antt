@@ -1,0 +1,19 @@
+-- The digits from i on stand, and the first i are those of the rest. The measure is i.
+use native.Mathlib.Nat.{add-zero}
+use native.Mathlib.Omega.{arith}
+use borrow.Author.Rules.{rules}
+use mathlib.Core.Path.{◌≡◌, refl, sym, ap, ◌∙◌}
+use mathlib.Core.List.{List}
+use Prim.Native.Nat.{ℕ, suc, ◌≤◌, ◌<◌, ◌-◌, ◌+◌}
+use lib.ListN.{length, take, drop, set, length-set, drop_of_length-le}
+use lib.Seq.{take_all}
+use Rattle.records.specs.Lines.{over}
+use Rattle.records.specs.Laws.Decimal.{digits, length_digits}
+use Rattle.records.specs.Laws.Writing.{over_nothing, digits_before, digit_more}
+use Rattle.records.proofs.lines.spell.Given as goal
+
+abbrev pub invariant-loop-i : goal.invariant-loop-i
+invariant-loop-i l = (l.i ≤ l.k) × (take l.i (digits l.k l.n) ≡ digits l.i l.rest) × (l.out ≡ over l.initial.out (l.at + l.i) (drop l.i (digits l.k l.n))) × (length l.out ≡ length l.initial.out)
+
+abbrev pub decreases-loop-i : goal.decreases-loop-i
+decreases-loop-i l = l.i

@@ -1,0 +1,18 @@
+-- Where both tables have all words in use they go by way of a block. Else, after i turns, the first i words are those of the
+use mathlib.Core.Path.{◌≡◌, refl, ap, ◌∙◌}
+use mathlib.Core.List.{List, ◌++◌}
+use Prim.Native.Nat.{ℕ, ◌≤◌, ◌-◌}
+use native.Mathlib.Omega.{arith}
+use borrow.Author.Rules.{rules}
+use lib.ListN.{length, set, take, drop, length-set, length-take, get_or}
+use Rattle.words.specs.Layout.{words}
+use Rattle.words.specs.Copies.{in_both}
+use Rattle.words.specs.Laws.Copies.{copy_more, copied_whole}
+use Rattle.words.proofs.copies.copy.Given as goal
+
+-- source and the others stand; the measure is the words left.
+abbrev pub invariant-loop-i : goal.invariant-loop-i
+invariant-loop-i l = (l.i ≤ l.n) × (l.n ≡ in_both l.from l.initial.to) × (l.to ≡ take l.i l.from ++ drop l.i l.initial.to) × (length l.to ≡ length l.initial.to)
+
+abbrev pub decreases-loop-i : goal.decreases-loop-i
+decreases-loop-i l = l.n - l.i
