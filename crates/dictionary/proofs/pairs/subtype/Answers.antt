@@ -16,6 +16,7 @@ use Rattle.dictionary.specs.Quick.References.{mask_below}
 use Rattle.dictionary.specs.Laws.Types.{of_pair}
 use Rattle.dictionary.specs.Laws.Subtypes.{subtype_same, no_type_below, no_type_above}
 use Rattle.dictionary.proofs.pairs.subtype.Goals as goal
+use Rattle.dictionary.proofs.pairs.subtype.Goals.{else-is_type-via-then-is_type+else-is_type-2, else-is_type-via-else-is_type}
 
 -- every pair of types says that bit b of row a is the relation's answer.
 -- the rows of the types below n, as the relation gives them
@@ -28,46 +29,39 @@ abbrev entry : ℕ → ℕ → Bool
 entry a b = eqb (get_or (rows_below types) a 0 / 2 ^ b % 2) 1
 
 -- the table is read for two types
-first : (c : goal.Then-is_type-2) → is_type c.args.a ≡ true
-first c = sym c.is_type.ensures ∙ c.else-is_type.true
-
-second : (c : goal.Then-is_type-2) → is_type c.args.b ≡ true
-second c = sym c.is_type-then-is_type.ensures ∙ c.if-is_type-2.true
-
-below : (c : goal.Then-is_type-2) →
-    let start = c in
-    (start.args.a < types) × (start.args.b < types)
+below : (a : ℕ) → is_type a ≡ true → a < types
 unfolding is_type
-below c = (ltb-true _ types (first c), ltb-true _ types (second c))
+below a e = ltb-true _ types e
 
 pub returns-then-a-b : goal.returns-then-a-b
 returns-then-a-b c =
     let b = c.args.b in
     sym (ap (λ (x : ℕ). spec.subtype x b) c.if-a-b.true ∙ subtype_same b)
 
+pub bounds-a : goal.bounds-a
+unfolding the_table
+bounds-a c = below c.args.a (sym c.is_type.ensures ∙ c.if-is_type.true)
+
 pub overflow_cast-result-then-is_type-2 : goal.overflow_cast-result-then-is_type-2
 unfolding the_table
-overflow_cast-result-then-is_type-2 c = omega (arith, (below c).0, (below c).1)
+overflow_cast-result-then-is_type-2 c = omega (arith, below c.args.b (sym c.is_type-then-is_type.ensures ∙ c.if-is_type-2.true))
 
 pub overflow_shr-result : goal.overflow_shr-result
 unfolding the_table
-overflow_shr-result c = omega (arith, (below c).0, (below c).1)
+overflow_shr-result c = omega (arith, below c.args.b (sym c.is_type-then-is_type.ensures ∙ c.if-is_type-2.true))
 
 pub returns-then-is_type-2 : goal.returns-then-is_type-2
 unfolding rows_below all_b mask_below spec.subtype the_table
 returns-then-is_type-2 c =
-    let start = c in
-    of_pair types entry spec.subtype refl start.args.a start.args.b (first c) (below c).1
+    of_pair types entry spec.subtype refl c.args.a c.args.b (sym c.is_type.ensures ∙ c.if-is_type.true)
+    (below c.args.b (sym c.is_type-then-is_type.ensures ∙ c.if-is_type-2.true))
 
 pub returns : goal.returns
 returns c =
     let a = c.args.a in
     let b = c.args.b in
     let differ = c.if-a-b.false in
-    sym
-    (⊎_elim (λ x. no_type_above a b (sym x.1.ensures ∙ x.2.left) differ)
-    (λ x. no_type_below a b (sym c.is_type.ensures ∙ x.left) differ)
-    c.else-is_type.branch)
-
-pub bounds-a : goal.bounds-a
-bounds-a c = ?
+    elim c.else-is_type.branch [
+      else-is_type-via-then-is_type+else-is_type-2 w ↦ sym (no_type_above a b (sym w.is_type-then-is_type.ensures ∙ w.if-is_type-2.false) differ)
+      | else-is_type-via-else-is_type w ↦ sym (no_type_below a b (sym c.is_type.ensures ∙ w.if-is_type.false) differ)
+    ]

@@ -19,36 +19,36 @@ root (Is p) e = absurd (false≢true e)
 
 pub returns-in-1 : goal.returns-in-1
 unfolding the_table
-returns-in-1 c = sym (ap parent_of c.in_default.keys1)
+returns-in-1 c = sym (ap parent_of c.in-1.is)
 
 pub returns-in-2 : goal.returns-in-2
 unfolding the_table
-returns-in-2 c = sym (ap parent_of c.in_default.keys2)
+returns-in-2 c = sym (ap parent_of c.in-2.is)
 
 pub returns-in-3 : goal.returns-in-3
 unfolding the_table
-returns-in-3 c = sym (ap parent_of c.in_default.keys3)
+returns-in-3 c = sym (ap parent_of c.in-3.is)
 
 pub returns-in-4 : goal.returns-in-4
 unfolding the_table
-returns-in-4 c = sym (ap parent_of c.in_default.keys4)
+returns-in-4 c = sym (ap parent_of c.in-4.is)
 
 pub returns-in-6 : goal.returns-in-6
 unfolding the_table
-returns-in-6 c = sym (ap parent_of c.in_default.keys5)
+returns-in-6 c = sym (ap parent_of c.in-6.is)
 
 pub returns-in-7 : goal.returns-in-7
 unfolding the_table
-returns-in-7 c = sym (ap parent_of c.in_default.keys6)
+returns-in-7 c = sym (ap parent_of c.in-7.is)
 
 pub returns-in-9 : goal.returns-in-9
 unfolding the_table
-returns-in-9 c = sym (ap parent_of c.in_default.keys7)
+returns-in-9 c = sym (ap parent_of c.in-9.is)
 
 pub returns-in_default : goal.returns-in_default
 unfolding all_b among the_table
 returns-in_default c =
     let t = c.args.t in
     root (parent_of t)
-    (default (9 ∷ 7 ∷ 6 ∷ 4 ∷ 3 ∷ 2 ∷ 1 ∷ []) (λ u. roots (parent_of u)) refl t c.in_default.rest
+    (default (9 ∷ 7 ∷ 6 ∷ 4 ∷ 3 ∷ 2 ∷ 1 ∷ []) (λ u. roots (parent_of u)) refl t c.in_default.in_default-own.rest
     (λ i. rw (no_type_parent t i)))

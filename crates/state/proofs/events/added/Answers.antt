@@ -22,4 +22,4 @@ returns c =
     let a = c.args in
     let at_end : c.loop-i.i ≡ 15 = omega arith in
     rw (le-ltb a.n 16 c.if-n-lt-SLOTS.false, c.loop-i.invariant.1, at_end)
-    (ap (log a.n) (all_moved a.t1 a.e (search rules)))
+    (ap (log a.n) (all_moved a.before a.e (search rules)))

@@ -1,0 +1,21 @@
+use mathlib.Core.Path.{sym, ◌∙◌, ap}
+use Prim.Native.Nat.{ℕ}
+use Rattle.dictionary.specs.Subtype as spec
+use Rattle.dictionary.specs.Laws.Subtypes.{subtype_up, subtype_root, subtype_same}
+use Rattle.dictionary.specs.Laws.Types.{parent_lower}
+use Rattle.dictionary.proofs.parents.+subtype.Goals as goal
+
+pub returns-then-a-b : goal.returns-then-a-b
+returns-then-a-b t c =
+    let b = c.args.b in
+    sym (ap (λ (x : ℕ). spec.subtype x b) c.if-a-b.true ∙ subtype_same b)
+
+pub subtype-requires : goal.subtype-requires
+subtype-requires t c = (rw c.decreases at (parent_lower c.args.a c.in-Is.p (sym c.parent.ensures ∙ c.in-Is.is)), tt)
+
+pub returns-in-Is : goal.returns-in-Is
+returns-in-Is t c =
+    c.subtype.ensures ∙ sym (subtype_up c.args.a c.args.b c.in-Is.p c.if-a-b.false (sym c.parent.ensures ∙ c.in-Is.is))
+
+pub returns-in-Root : goal.returns-in-Root
+returns-in-Root t c = sym (subtype_root c.args.a c.args.b c.if-a-b.false (sym c.parent.ensures ∙ c.in-Root.is))

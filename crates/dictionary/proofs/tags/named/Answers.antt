@@ -1,0 +1,17 @@
+-- `named` meets its contract: each arm is asked by its type, and from the last arm on there is no type.
+use mathlib.Core.Path.{sym, ap, ◌∙◌}
+use Prim.Native.Nat.{ℕ, ◌-◌}
+use native.Mathlib.Omega.{arith}
+use borrow.Author.Rules.{rules}
+use borrow.Author.Tests.{le-ltb}
+use Rattle.dictionary.specs.Dictionary.{types, is_type, the_table}
+use Rattle.dictionary.specs.Quick.Tags.{names_of}
+use Rattle.dictionary.specs.Laws.Tags.{no_type_names}
+use Rattle.dictionary.proofs.Arms.{past}
+use Rattle.dictionary.proofs.tags.named.Goals as goal
+
+pub returns-in_default : goal.returns-in_default
+unfolding is_type the_table
+returns-in_default c =
+    let tag = c.args.tag in
+    c.names-in_default.ensures ∙ no_type_names 14 (tag - 1) (le-ltb 14 types (omega arith)) (le-ltb (tag - 1) types (omega (arith, past 15 tag c.in_default.in_default-own.rest)))
