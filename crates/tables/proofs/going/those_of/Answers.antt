@@ -1,0 +1,26 @@
+use mathlib.Core.Path.{◌≡◌, refl}
+use Prim.Native.Nat.{◌+◌, ◌-◌, ◌≤◌}
+use native.Mathlib.Nat.{zero-add}
+use native.Mathlib.Omega.{arith}
+use native.Mathlib.Numerals.{add-one}
+use borrow.Author.Rules.{rules}
+use Rattle.words.specs.declared.layout.Kind.TheVariants.{Model}
+use Rattle.words.specs.Sets.{bits, set_of}
+use Rattle.tables.specs.Deletions.{goes_with}
+use Rattle.tables.proofs.going.those_of.Goals as goal
+
+pub loop-i-init : goal.loop-i-init
+unfolding set_of
+loop-i-init c = (omega arith, refl, refl)
+
+pub loop-i-preserved : goal.loop-i-preserved
+unfolding set_of
+loop-i-preserved c =
+    let the_loop = c.loop-i in (
+      omega arith,
+      rw (add-one, ← the_loop.invariant.1, zero-add, ← c.is_of_present.ensures) c.with_if-low.ensures,
+      rw (add-one, ← the_loop.invariant.2, ← c.is_of_present-in-loop-i.ensures) c.with_if-high.ensures,
+    )
+
+pub returns : goal.returns
+returns c = let e : c.loop-i.i ≡ bits = omega arith in rw (c.loop-i.invariant.1, c.loop-i.invariant.2, e)

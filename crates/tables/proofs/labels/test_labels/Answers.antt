@@ -1,0 +1,143 @@
+use borrow.Author.Rules.{rules}
+use Rattle.tables.specs.Sound.{same_name}
+use mathlib.Core.Path.{◌≡◌, refl, sym, ap, ◌∙◌}
+use mathlib.Core.Logic.{⊎_elim}
+use Prim.Native.Nat.{ℕ, ◌-◌, ◌≤◌, ◌<◌}
+use native.Mathlib.Omega.{arith}
+use lib.ListN.{get_or}
+use borrow.Author.Tests.{not-true, not-false, eq-eqb, ne_eqb}
+use Rattle.words.specs.Layout.{stride_of, count_of, place_of}
+use Rattle.words.specs.Sets.{bits}
+use Rattle.words.specs.Laws.Layout.{in_use, stride_positive, stride_at_most}
+use Rattle.tables.specs.View.{label_at}
+use Rattle.tables.specs.Laws.Names.{Walked, walk_start, walk_less, walk_next, walk_found, walk_end}
+use Rattle.tables.specs.Laws.Labels.{Passed, first_word, next_place, first_place, none_passed, free_passed, label_passed, all_passed, no_label, not_new}
+use Rattle.tables.proofs.labels.test_labels.Goals as goal
+use Rattle.tables.proofs.labels.test_labels.Goals.{then-label-ne0+else-not-is_label+else-loop-met-test, else-label-ne0}
+
+pub loop-i-init : goal.loop-i-init
+loop-i-init c =
+    let a = c.args in
+    let the_count = c.count-n in
+    (omega arith, the_count.ensures, c.stride-step.ensures, c.base-at.ensures ∙ first_place a.kind, rw c.nobody-live.ensures (none_passed a.t.now a.kind _ refl))
+
+pub returns-then-not-is_label : goal.returns-then-not-is_label
+returns-then-not-is_label c =
+    let below : (let a = c.args in
+    c.loop-i.i < count_of a.kind) = omega arith in
+    let here : (let a = c.args in
+    label_at a.t.now a.kind c.loop-i.i ≡ get_or a.t.now c.loop-i.at 0) = let a = c.args in
+    first_word a.t.now a.kind c.loop-i.i (below) ∙ ap (λ (x : ℕ). get_or a.t.now x 0) (sym c.loop-i.invariant.3) in
+    let back = c in
+    let a = back.args in
+    let the_loop = c.loop-i in
+    let there = c in
+    no_label a.t.now a.kind the_loop.i (below) (rw (here) (ne_eqb _ _ c.if-label-ne0.true))
+    (rw (here) (sym c.is_label.ensures ∙ c.if-not-is_label.true))
+
+pub loop-met-init : goal.loop-met-init
+loop-met-init c =
+    let below : (let a = c.args in
+    c.loop-i.i < count_of a.kind) = omega arith in
+    let here : (let a = c.args in
+    label_at a.t.now a.kind c.loop-i.i ≡ get_or a.t.now c.loop-i.at 0) = let a = c.args in
+    first_word a.t.now a.kind c.loop-i.i (below) ∙ ap (λ (x : ℕ). get_or a.t.now x 0) (sym c.loop-i.invariant.3) in
+    let back = c in
+    let a = back.args in
+    let the_loop = c.loop-i in
+    let there = c in
+    walk_start a.t.now a.kind the_loop.i _ (rw (here, ← c.chain-b.ensures) (the_loop.invariant.4.chained.heads c.chain-b.result (omega (arith, c.chain-b.ensures))))
+
+pub returns-then-same_name : goal.returns-then-same_name
+returns-then-same_name c =
+    let below : (let a = c.args in
+    c.loop-i.i < count_of a.kind) = omega arith in
+    let here : (let a = c.args in
+    label_at a.t.now a.kind c.loop-i.i ≡ get_or a.t.now c.loop-i.at 0) = let a = c.args in
+    first_word a.t.now a.kind c.loop-i.i (below) ∙ ap (λ (x : ℕ). get_or a.t.now x 0) (sym c.loop-i.invariant.3) in
+    let met_below : (let back = c in
+    let a = back.args in
+    c.loop-met.met - 1 < count_of a.kind) = omega (arith, c.loop-met.invariant.below, below) in
+    let met_here : (let back = c in
+    let a = back.args in
+    label_at a.t.now a.kind (c.loop-met.met - 1) ≡ get_or a.t.now c.place.result 0) = let back = c in
+    let a = back.args in
+    first_word a.t.now a.kind (c.loop-met.met - 1) (met_below) ∙ ap (λ (x : ℕ). get_or a.t.now x 0) (sym c.place.ensures) in
+    let tested : (let back = c in
+    let further = back in
+    let a = further.args in
+    let the_loop = back.loop-i in
+    let the_loop2 = c.loop-met in
+    same_name (label_at a.t.now a.kind the_loop.i) (label_at a.t.now a.kind (the_loop2.met - 1)) ≡ c.same_name.result) = let back = c in
+    let there = back in
+    rw (here, met_here) (sym c.same_name.ensures) in
+    let back = c in
+    let further = back in
+    let a = further.args in
+    let the_loop = back.loop-i in
+    let the_loop2 = c.loop-met in
+    let the_loop2_test = c.loop-met-test in
+    let there = back in
+    not_new a.t.now a.kind the_loop.i (below)
+    (walk_found a.t.now a.kind the_loop.i the_loop2.met the_loop.before the_loop.invariant.4.chained.links the_loop2.invariant
+    the_loop2_test.true (tested ∙ c.if-same_name.true))
+
+pub loop-met-preserved : goal.loop-met-preserved
+loop-met-preserved c =
+    let below : (let a = c.args in
+    c.loop-i.i < count_of a.kind) = omega arith in
+    let here : (let a = c.args in
+    label_at a.t.now a.kind c.loop-i.i ≡ get_or a.t.now c.loop-i.at 0) = let a = c.args in
+    first_word a.t.now a.kind c.loop-i.i (below) ∙ ap (λ (x : ℕ). get_or a.t.now x 0) (sym c.loop-i.invariant.3) in
+    let met_below : (let back = c in
+    let a = back.args in
+    c.loop-met.met - 1 < count_of a.kind) = omega (arith, c.loop-met.invariant.below, below) in
+    let met_here : (let back = c in
+    let a = back.args in
+    label_at a.t.now a.kind (c.loop-met.met - 1) ≡ get_or a.t.now c.place.result 0) = let back = c in
+    let a = back.args in
+    first_word a.t.now a.kind (c.loop-met.met - 1) (met_below) ∙ ap (λ (x : ℕ). get_or a.t.now x 0) (sym c.place.ensures) in
+    let tested : (let back = c in
+    let further = back in
+    let a = further.args in
+    let the_loop = back.loop-i in
+    let the_loop2 = c.loop-met in
+    same_name (label_at a.t.now a.kind the_loop.i) (label_at a.t.now a.kind (the_loop2.met - 1)) ≡ c.same_name.result) = let back = c in
+    let there = back in
+    rw (here, met_here) (sym c.same_name.ensures) in
+    let back = c in
+    let further = back in
+    let a = further.args in
+    let the_loop = back.loop-i in
+    let the_loop2 = c.loop-met in
+    let the_loop2_test = c.loop-met-test in
+    walk_next a.t.now a.kind the_loop.i the_loop2.met the_loop.before the_loop.invariant.4.chained.links the_loop2.invariant the_loop2_test.true (tested ∙ c.if-same_name.false)
+
+pub loop-i-preserved : goal.loop-i-preserved
+loop-i-preserved c =
+    let below : (let a = c.args in
+    c.loop-i.i < count_of a.kind) = omega arith in
+    let few : c.loop-i.i < bits = omega (arith, below, c.requires.1) in
+    let here : (let a = c.args in
+    label_at a.t.now a.kind c.loop-i.i ≡ get_or a.t.now c.loop-i.at 0) = let a = c.args in
+    first_word a.t.now a.kind c.loop-i.i (below) ∙ ap (λ (x : ℕ). get_or a.t.now x 0) (sym c.loop-i.invariant.3) in
+    let a = c.args in
+    let the_loop = c.loop-i in
+    let there = c in (
+      omega arith,
+      the_loop.invariant.1,
+      the_loop.invariant.2,
+      rw (the_loop.invariant.2, the_loop.invariant.3) (next_place a.kind the_loop.i),
+      elim c.if-label-ne0.branch [
+        then-label-ne0+else-not-is_label+else-loop-met-test w ↦ rw (w.last-is, w.before-is, w.live-is, w.joined-live.ensures, w.schema_in.ensures, w.chain-b.ensures)
+          (label_passed a.t.now a.kind the_loop.last the_loop.before the_loop.live the_loop.i the_loop.invariant.4 few _ here
+          (sym w.is_label.ensures ∙ w.if-not-is_label.false) (walk_end a.t.now a.kind the_loop.i _ w.loop-met.invariant w.loop-met-test.false))
+        | else-label-ne0 w ↦ rw (w.last-is, w.before-is, w.live-is) (free_passed a.t.now a.kind the_loop.last the_loop.before the_loop.live the_loop.i the_loop.invariant.4
+          (rw here (eq-eqb _ _ w.if-label-ne0.false)))
+      ],
+    )
+
+pub returns : goal.returns
+returns c =
+    let a = c.args in
+    all_passed a.t.now a.kind c.loop-i.last c.loop-i.before c.loop-i.live c.loop-i.i c.loop-i.invariant.4 (omega arith)
