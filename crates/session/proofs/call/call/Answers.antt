@@ -1,0 +1,19 @@
+-- An unsound state is answered as it came; a sound one goes to the core.
+use borrow.Author.Tests.{not-true, not-false}
+use Rattle.session.specs.Step.{step}
+use borrow.Author.Rules.{rules}
+use Rattle.session.proofs.call.call.Goals as goal
+
+pub returns-then-not-is_sound : goal.returns-then-not-is_sound
+unfolding step
+returns-then-not-is_sound c =
+    let tested = c.is_sound in
+    rw (← tested.ensures, c.if-not-is_sound.true, c.unsound.ensures)
+
+pub returns : goal.returns
+unfolding step
+returns c =
+    let at_core = c in
+    let left = at_core in
+    let tested = left.is_sound in
+    rw (← tested.ensures, left.if-not-is_sound.false) at_core.core.ensures
