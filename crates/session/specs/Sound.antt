@@ -3,7 +3,7 @@ use Rattle.std.specs.Prelude.{ℕ, Bool, true, cond, not, ◌&&◌, ◌||◌, Li
 use Rattle.words.specs.declared.layout.Kind.TheVariants.{Model}
 use Rattle.logic.specs.Search.{all_b}
 use Rattle.words.specs.Sets.{none, bits, has}
-use Rattle.words.specs.Fields.{repositories, repository_in}
+use Rattle.words.specs.Fields.{repository_in}
 use Rattle.tables.specs.View.{is_live, label_at}
 use Rattle.tables.specs.Sound.{sound_tables}
 use Rattle.state.specs.declared.state.State.{State}

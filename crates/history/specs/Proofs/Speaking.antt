@@ -19,7 +19,7 @@ use Rattle.dictionary.specs.declared.answers.Attribute.TheVariants.{Lacking}
 use Rattle.dictionary.specs.Dictionary.{is_type, attribute_of, lacks, the_table}
 use Rattle.tables.specs.View.{label_at, header_at, type_at, model_at}
 use Rattle.tables.specs.declared.changes.Change.{Change}
-use Rattle.tables.specs.declared.changes.Change.TheVariants.{Made, Put, Unset}
+use Rattle.tables.specs.declared.changes.Change.TheVariants.{Made}
 use Rattle.tables.specs.Changes.{apply}
 use Rattle.checks.specs.declared.operations.Operation.{Operation}
 use Rattle.checks.specs.declared.operations.Operation.TheVariants as operation

@@ -8,7 +8,7 @@ use Rattle.logic.specs.Laws.Bools.{and_left, clash}
 use Rattle.words.specs.Laws.Sets.{has_insert, has_remove}
 use Rattle.tables.specs.View.{is_live, label_at}
 use Rattle.state.specs.declared.state.Session.{Session}
-use Rattle.state.specs.States.{RO, RW, is_open, under, with_access, woken, session}
+use Rattle.state.specs.States.{RO, RW, is_open, under, with_access, woken}
 use Rattle.session.specs.Sound.{may_access}
 use Rattle.promises.specs.Keeps.Facts.{SoundTables}
 use Rattle.promises.specs.Keeps.Frame.{same_or_not}

@@ -9,7 +9,7 @@ use Rattle.logic.specs.Laws.Bools.{and_left, and_right, and_both, or_right}
 use Rattle.words.specs.Laws.Sets.{has_insert}
 use Rattle.tables.specs.View.{is_live, label_at}
 use Rattle.state.specs.declared.state.Session.{Session}
-use Rattle.state.specs.States.{NONE, RO, RW, ABORTED, is_open, under, with_recording, with_transaction, with_repositories, with_access, ended, opened_state, session}
+use Rattle.state.specs.States.{NONE, RO, RW, ABORTED, is_open, under, with_recording, with_transaction, with_repositories, with_access, ended, opened_state}
 use Rattle.session.specs.Sound.{may_access}
 use Rattle.promises.specs.Keeps.Facts.{SoundTables}
 use Rattle.promises.specs.Keeps.SessionFacts.{Closed, Sound}

@@ -1,6 +1,5 @@
 -- The condition is the definition's, each part by its function's contract.
 use mathlib.Core.Path.{sym}
-use borrow.Author.Rules.{rules}
 use Rattle.dictionary.specs.Laws.Attributes.{attribute_lacks}
 use Rattle.checks.proofs.conditions.lacks_attribute.Goals as goal
 

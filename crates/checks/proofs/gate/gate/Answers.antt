@@ -1,6 +1,5 @@
 -- Each family's checks.
 use Rattle.checks.specs.Checks.{first_of}
-use borrow.Author.Rules.{rules}
 use Rattle.checks.proofs.gate.gate.Goals as goal
 
 pub returns-in-Unlisted : goal.returns-in-Unlisted

@@ -1,6 +1,5 @@
 -- The first condition that holds decides, and else the rest.
 use Rattle.checks.specs.Checks.{first_of}
-use borrow.Author.Rules.{rules}
 use Rattle.checks.proofs.gate.transacted.Goals as goal
 
 pub returns-then-not-is_open : goal.returns-then-not-is_open

@@ -1,6 +1,5 @@
 -- The four numbers are four rows of the list, and no other is from 30 to 33.
 use mathlib.Core.Path.{sym, ap}
-use native.Mathlib.Omega.{arith}
 use Rattle.checks.specs.Operations.{operation_of}
 use Rattle.checks.specs.Laws.Operations.{the_list}
 use Rattle.checks.proofs.operations.of_schema_instances.Goals as goal

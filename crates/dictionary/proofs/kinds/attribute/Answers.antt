@@ -1,8 +1,6 @@
 -- `attribute` meets its contract: at 0, 1 and 2 by the three functions, and no type has more attributes than three.
-use mathlib.Core.Path.{sym, ◌∙◌, ap}
+use mathlib.Core.Path.{sym}
 use native.Mathlib.Omega.{arith}
-use borrow.Author.Rules.{rules}
-use Rattle.dictionary.specs.Dictionary.{attribute_of}
 use Rattle.dictionary.specs.Laws.Attributes.{attributes_few, attribute_lacking}
 use Rattle.dictionary.proofs.kinds.attribute.Goals as goal
 

@@ -1,7 +1,6 @@
 -- `first` meets its contract: one computed test says that every type's first attribute is a whole number.
 use mathlib.Core.Path.{◌≡◌, refl, sym, ◌∙◌}
 use mathlib.Core.Bool.{Bool, true, false, false≢true}
-use borrow.Author.Rules.{rules}
 use Rattle.dictionary.specs.declared.answers.Attribute.{Attribute}
 use Rattle.dictionary.specs.declared.answers.Attribute.TheVariants.{Lacking, Whole, Reference}
 use Rattle.logic.specs.Search.{all_b}

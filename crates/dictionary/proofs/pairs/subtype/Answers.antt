@@ -1,13 +1,11 @@
 -- `subtype` meets its contract: the table's rows are those that the relation by parents gives, and one computed test of
 use mathlib.Core.Path.{◌≡◌, refl, sym, ◌∙◌, ap}
 use mathlib.Core.Bool.{Bool, true}
-use mathlib.Core.Logic.{⊎_elim}
 use mathlib.Core.List.{List, [], ◌∷◌, ◌++◌}
 use Prim.Native.Nat.{ℕ, zero, suc, ◌<◌, ◌/◌, ◌%◌, ◌^◌}
 use native.Mathlib.Omega.{arith}
 use lib.Dec.{eqb}
 use lib.ListN.{get_or}
-use borrow.Author.Rules.{rules}
 use borrow.Author.Tests.{ltb-true}
 use Rattle.logic.specs.Search.{all_b}
 use Rattle.dictionary.specs.Dictionary.{types, is_type, the_table}
@@ -62,6 +60,6 @@ returns c =
     let b = c.args.b in
     let differ = c.if-a-b.false in
     elim c.else-is_type.branch [
-      else-is_type-via-then-is_type+else-is_type-2 w ↦ sym (no_type_above a b (sym w.is_type-then-is_type.ensures ∙ w.if-is_type-2.false) differ)
+      | else-is_type-via-then-is_type+else-is_type-2 w ↦ sym (no_type_above a b (sym w.is_type-then-is_type.ensures ∙ w.if-is_type-2.false) differ)
       | else-is_type-via-else-is_type w ↦ sym (no_type_below a b (sym c.is_type.ensures ∙ w.if-is_type.false) differ)
     ]

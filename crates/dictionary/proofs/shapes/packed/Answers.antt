@@ -1,7 +1,6 @@
 -- Each part stays in its own bits, a flag among them (`flag_small`), so nothing wraps.
 use Prim.Native.Nat.{◌≤◌}
 use native.Mathlib.Omega.{arith}
-use borrow.Author.Rules.{rules}
 use Rattle.dictionary.specs.Laws.Shapes.{flag_small}
 use Rattle.dictionary.proofs.shapes.packed.Goals as goal
 

@@ -1,5 +1,4 @@
 -- The shape is the type's.
-use borrow.Author.Rules.{rules}
 use Rattle.dictionary.specs.Quick.Tags.{bars_of}
 use Rattle.dictionary.proofs.tags.bars.Goals as goal
 

@@ -1,11 +1,9 @@
 -- `named` meets its contract: each arm is asked by its type, and from the last arm on there is no type.
-use mathlib.Core.Path.{sym, ap, ◌∙◌}
-use Prim.Native.Nat.{ℕ, ◌-◌}
+use mathlib.Core.Path.{◌∙◌}
+use Prim.Native.Nat.{◌-◌}
 use native.Mathlib.Omega.{arith}
-use borrow.Author.Rules.{rules}
 use borrow.Author.Tests.{le-ltb}
 use Rattle.dictionary.specs.Dictionary.{types, is_type, the_table}
-use Rattle.dictionary.specs.Quick.Tags.{names_of}
 use Rattle.dictionary.specs.Laws.Tags.{no_type_names}
 use Rattle.dictionary.proofs.Arms.{past}
 use Rattle.dictionary.proofs.tags.named.Goals as goal

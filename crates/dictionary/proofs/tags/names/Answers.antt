@@ -1,5 +1,4 @@
 -- The shape is the type's, and so is the mark.
-use borrow.Author.Rules.{rules}
 use Rattle.dictionary.specs.Quick.Tags.{names_of}
 use Rattle.dictionary.proofs.tags.names.Goals as goal
 

@@ -1,7 +1,5 @@
 -- An unsound state is answered as it came; a sound one goes to the core.
-use borrow.Author.Tests.{not-true, not-false}
 use Rattle.session.specs.Step.{step}
-use borrow.Author.Rules.{rules}
 use Rattle.session.proofs.call.call.Goals as goal
 
 pub returns-then-not-is_sound : goal.returns-then-not-is_sound

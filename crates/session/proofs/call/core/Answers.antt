@@ -1,7 +1,6 @@
 -- What is served is the definition's effect; the answer is that of a log that stays, or of one that may change.
 use mathlib.Core.Path.{sym, ◌∙◌}
 use Rattle.session.specs.Laws.Served.{served_core, served_carried}
-use borrow.Author.Rules.{rules}
 use Rattle.session.proofs.call.core.Goals as goal
 
 pub returns-then-log_stays : goal.returns-then-log_stays

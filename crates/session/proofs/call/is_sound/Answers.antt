@@ -1,12 +1,7 @@
 -- The tables by their function's contract; sound ones are long and have sound labels, as the test of the session asks.
-use mathlib.Core.Path.{◌≡◌, sym, ◌∙◌}
-use mathlib.Core.Bool.{Bool, true, false}
-use borrow.Author.Tests.{not-true, not-false}
-use Rattle.tables.specs.Sound.{sound_tables}
-use Rattle.state.specs.States.{RW, under}
+use mathlib.Core.Path.{sym, ◌∙◌}
 use Rattle.session.specs.Laws.Sound.{sound_long, sound_labels_lem}
 use Rattle.session.specs.Sound.{sound}
-use borrow.Author.Rules.{rules}
 use Rattle.session.proofs.call.is_sound.Goals as goal
 
 pub returns-then-not-sound_tables : goal.returns-then-not-sound_tables

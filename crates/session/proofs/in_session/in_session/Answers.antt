@@ -1,6 +1,5 @@
 -- Each operation by its own function.
 use Rattle.checks.specs.Checks.{first_of}
-use borrow.Author.Rules.{rules}
 use Rattle.session.proofs.in_session.in_session.Goals as goal
 
 pub returns-in-CloseSession : goal.returns-in-CloseSession

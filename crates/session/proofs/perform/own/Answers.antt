@@ -1,6 +1,5 @@
 -- Each family by its own function.
 use Rattle.checks.specs.Checks.{first_of}
-use borrow.Author.Rules.{rules}
 use Rattle.session.proofs.perform.own.Goals as goal
 
 pub returns-in-Unlisted : goal.returns-in-Unlisted

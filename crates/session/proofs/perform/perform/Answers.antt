@@ -1,7 +1,6 @@
 -- The gate's refusal, or where it gives none what the operation's own checks and effect give.
 use mathlib.Core.Path.{sym, ◌∙◌}
 use Rattle.session.specs.Laws.Checks.{gate_stops, gate_passes}
-use borrow.Author.Rules.{rules}
 use Rattle.session.proofs.perform.perform.Goals as goal
 
 pub returns-then-refusal-ne-DONE : goal.returns-then-refusal-ne-DONE

@@ -1,14 +1,13 @@
 use mathlib.Core.Path.{◌≡◌, refl, subst}
 use mathlib.Core.Bool.{true}
-use Prim.Native.Nat.{ℕ, ◌≤◌, ◌-◌}
+use Prim.Native.Nat.{ℕ}
 use native.Mathlib.Omega.{arith}
 use native.Mathlib.Numerals.{add-one}
 use Rattle.words.specs.declared.layout.Kind.TheVariants.{Model}
 use Rattle.words.specs.Layout.{count_of}
 use Rattle.words.specs.Entries.{word_of, formed}
-use Rattle.words.specs.Sets.{bits, set_of}
+use Rattle.words.specs.Sets.{set_of}
 use Rattle.logic.specs.Laws.Search.{all_at}
-use Rattle.session.specs.Quick.Access.{seen_at}
 use Rattle.session.specs.Laws.Sound.{model_label}
 use Rattle.session.proofs.sound.in_open.Goals as goal
 

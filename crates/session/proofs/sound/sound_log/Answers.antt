@@ -1,7 +1,6 @@
 -- The count and the slots, each by its test.
 use borrow.Author.Tests.{lt-leb, le-leb}
 use Rattle.session.specs.Sound.{sound_log}
-use borrow.Author.Rules.{rules}
 use Rattle.session.proofs.sound.sound_log.Goals as goal
 
 pub returns-then-count-gt-SLOTS : goal.returns-then-count-gt-SLOTS

@@ -1,7 +1,6 @@
 -- An open session passes; a closed one is blank.
 use mathlib.Core.Path.{sym, ◌∙◌}
 use Rattle.session.specs.Sound.{sound_open}
-use borrow.Author.Rules.{rules}
 use Rattle.session.proofs.sound.sound_open.Goals as goal
 
 pub returns-then-is_open : goal.returns-then-is_open

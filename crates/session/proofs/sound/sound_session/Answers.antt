@@ -1,6 +1,5 @@
 -- All tests by their functions' contracts.
 use Rattle.session.specs.Sound.{sound_session}
-use borrow.Author.Rules.{rules}
 use Rattle.session.proofs.sound.sound_session.Goals as goal
 
 pub returns : goal.returns

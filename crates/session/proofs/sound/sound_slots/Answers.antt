@@ -1,16 +1,10 @@
-use mathlib.Core.Path.{◌≡◌, refl, sym, ◌∙◌}
-use mathlib.Core.Bool.{Bool, true}
-use mathlib.Core.List.{List}
-use Prim.Native.Nat.{ℕ, ◌≤◌, ◌-◌}
+use mathlib.Core.Path.{refl, sym, ◌∙◌}
 use native.Mathlib.Omega.{arith}
 use borrow.Author.Rules.{rules}
-use borrow.Author.Tests.{not-true, not-false}
 use lib.ListN.{get_or}
 use Rattle.logic.specs.Search.{all_b}
 use Rattle.logic.specs.Laws.Search.{all_more, all_stop, all_done}
-use Rattle.state.specs.declared.state.Event.{Event}
 use Rattle.state.specs.States.{slots, blank_event}
-use Rattle.session.specs.Sound.{sound_slot}
 use Rattle.session.specs.Laws.Sound.{by_slots, used_slot, unused_slot}
 use Rattle.session.proofs.sound.sound_slots.Invariants.{slot_of}
 use Rattle.session.proofs.sound.sound_slots.Goals as goal

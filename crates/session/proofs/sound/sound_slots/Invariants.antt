@@ -1,18 +1,13 @@
 -- Every slot passed is sound: those with events in the first loop, the blank ones in the second. The measure is the slots
-use mathlib.Core.Path.{◌≡◌, refl, sym, ◌∙◌}
+use mathlib.Core.Path.{◌≡◌}
 use mathlib.Core.Bool.{Bool, true}
 use mathlib.Core.List.{List}
 use Prim.Native.Nat.{ℕ, ◌≤◌, ◌-◌}
-use native.Mathlib.Omega.{arith}
-use borrow.Author.Rules.{rules}
-use borrow.Author.Tests.{not-true, not-false}
 use lib.ListN.{get_or}
 use Rattle.logic.specs.Search.{all_b}
-use Rattle.logic.specs.Laws.Search.{all_more, all_stop, all_done}
 use Rattle.state.specs.declared.state.Event.{Event}
 use Rattle.state.specs.States.{slots, blank_event}
 use Rattle.session.specs.Sound.{sound_slot}
-use Rattle.session.specs.Laws.Sound.{by_slots, used_slot, unused_slot}
 use Rattle.session.proofs.sound.sound_slots.Given as goal
 
 -- left.

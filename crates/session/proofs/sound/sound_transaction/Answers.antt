@@ -1,6 +1,5 @@
 -- The test is the definition's, the transaction by `under`'s contract.
 use Rattle.session.specs.Sound.{sound_transaction}
-use borrow.Author.Rules.{rules}
 use Rattle.session.proofs.sound.sound_transaction.Goals as goal
 
 pub returns : goal.returns

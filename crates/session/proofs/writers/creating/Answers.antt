@@ -1,6 +1,5 @@
 -- The row's checks and effect, each part by its function's contract.
 use Rattle.checks.specs.Checks.{first_of}
-use borrow.Author.Rules.{rules}
 use Rattle.session.proofs.writers.creating.Goals as goal
 
 pub returns : goal.returns

@@ -15,7 +15,6 @@ use Rattle.session.specs.Effects.{does, refuses}
 use Rattle.session.specs.Rows.{◌then◌, writer_row}
 use Rattle.session.specs.Quick.Rows.{row_done, putting}
 use Rattle.session.specs.Laws.Checks.{row_stops, row_goes_on}
-use borrow.Author.Rules.{rules}
 use Rattle.session.proofs.writers.put.Goals as goal
 
 module _ (i k v : ℕ) (s : State) (w : List ℕ) where

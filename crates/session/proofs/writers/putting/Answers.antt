@@ -1,6 +1,5 @@
 -- An attribute that is lacking is refused, a whole one asks nothing, a reference has its own checks.
 use Rattle.checks.specs.Checks.{first_of}
-use borrow.Author.Rules.{rules}
 use Rattle.session.proofs.writers.putting.Goals as goal
 
 pub returns-in-Lacking : goal.returns-in-Lacking

@@ -1,6 +1,5 @@
 -- Each return is a check of the definition that holds, behind those that do not.
 use Rattle.checks.specs.Checks.{first_of}
-use borrow.Author.Rules.{rules}
 use Rattle.session.proofs.writers.reference.Goals as goal
 
 pub returns-then-missing : goal.returns-then-missing

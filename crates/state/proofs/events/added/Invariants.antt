@@ -1,13 +1,7 @@
 -- Below sixteen the event goes to the next slot. Else the slots passed hold the events one slot on, and the last one has
 use Prim.Native.Nat.{◌≤◌, ◌-◌}
-use mathlib.Core.Path.{◌≡◌, refl, ap}
-use native.Mathlib.Omega.{arith}
-use native.Mathlib.Numerals.{add-one}
-use borrow.Author.Tests.{lt-ltb, le-ltb}
-use borrow.Author.Rules.{rules}
-use Rattle.state.specs.States.{log}
+use mathlib.Core.Path.{◌≡◌}
 use Rattle.state.specs.Quick.Events.{moved_on}
-use Rattle.state.specs.Laws.Events.{all_moved}
 use Rattle.state.proofs.events.added.Given as goal
 
 -- the new event from the start; the measure is the slots left.

@@ -1,7 +1,6 @@
 -- Each part is read where it stands.
 use mathlib.Core.Path.{refl}
 use Rattle.state.specs.Quick.Lent.{state_of}
-use borrow.Author.Rules.{rules}
 use Rattle.state.proofs.lent.state_of.Goals as goal
 
 pub returns : goal.returns

@@ -1,6 +1,5 @@
 -- Each change by its own function.
 use Rattle.tables.specs.Changes.{apply}
-use borrow.Author.Rules.{rules}
 use Rattle.tables.proofs.changes.apply.Goals as goal
 
 pub returns-in-Made : goal.returns-in-Made

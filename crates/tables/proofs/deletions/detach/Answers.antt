@@ -5,7 +5,6 @@ use Rattle.tables.specs.Quick.Going.{goes}
 use Rattle.tables.specs.Quick.Pointers.{pointer_in}
 use Rattle.tables.specs.Laws.Pointers.{Pointer, the_pointer}
 use Rattle.tables.specs.Laws.Deletions.{bare_stays, pointer_stays, pointer_goes}
-use borrow.Author.Rules.{rules}
 use Rattle.tables.proofs.deletions.detach.Goals as goal
 
 pub returns-then-k-eq-VALUES : goal.returns-then-k-eq-VALUES

@@ -1,6 +1,4 @@
-use mathlib.Core.Path.{◌≡◌, refl, sym, ◌∙◌}
-use mathlib.Core.Bool.{false}
-use Prim.Native.Nat.{◌≤◌, ◌-◌}
+use mathlib.Core.Path.{refl, sym, ◌∙◌}
 use native.Mathlib.Omega.{arith}
 use Rattle.words.specs.declared.layout.Kind.TheVariants.{Instance}
 use Rattle.words.specs.Layout.{count_of}
@@ -9,7 +7,6 @@ use Rattle.logic.specs.Laws.Search.{none_more, any_stop}
 use Rattle.words.specs.Laws.Present.{none_present}
 use Rattle.tables.specs.Laws.Deletions.{free_holds}
 use Rattle.tables.specs.Deletions.{goes_with, holds_back, held_back}
-use borrow.Author.Rules.{rules}
 use Rattle.tables.proofs.deletions.held_back.Goals as goal
 
 pub loop-i-init : goal.loop-i-init

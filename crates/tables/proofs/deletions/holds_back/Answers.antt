@@ -4,8 +4,7 @@ use Rattle.words.specs.Sets.{has}
 use Rattle.tables.specs.View.{header_at, model_at, value_at}
 use Rattle.tables.specs.Deletions.{goes_with}
 use Rattle.tables.specs.Quick.Pointers.{pointer_in}
-use Rattle.tables.specs.Laws.Deletions.{bare_holds, gone_holds, open_holds, holds_told}
-use borrow.Author.Rules.{rules}
+use Rattle.tables.specs.Laws.Deletions.{bare_holds, holds_told}
 use Rattle.tables.proofs.deletions.holds_back.Goals as goal
 
 pub returns-then-k-eq-VALUES : goal.returns-then-k-eq-VALUES

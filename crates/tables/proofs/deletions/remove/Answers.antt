@@ -6,7 +6,6 @@ use Rattle.tables.specs.declared.going.Going.{Going}
 use Rattle.tables.specs.Quick.Going.{goes}
 use Rattle.tables.specs.Deletions.{swept}
 use Rattle.tables.specs.Laws.Going.{swept_one}
-use borrow.Author.Rules.{rules}
 use Rattle.tables.proofs.deletions.remove.Goals as goal
 
 pub returns-in-Instance : goal.returns-in-Instance

@@ -9,7 +9,6 @@ use Rattle.tables.specs.declared.going.Going.{Going}
 use Rattle.tables.specs.Quick.Going.{goes}
 use Rattle.tables.specs.Deletions.{swept, ungrouped}
 use Rattle.tables.specs.Laws.Going.{swept_those}
-use borrow.Author.Rules.{rules}
 use Rattle.tables.proofs.deletions.remove_model.Goals as goal
 
 pub returns : goal.returns

@@ -1,9 +1,6 @@
 -- After i turns the first i instances are swept. The measure is the instances left.
-use mathlib.Core.Path.{◌≡◌, refl, ◌∙◌}
+use mathlib.Core.Path.{◌≡◌}
 use Prim.Native.Nat.{◌≤◌, ◌-◌}
-use native.Mathlib.Numerals.{add-one}
-use native.Mathlib.Omega.{arith}
-use borrow.Author.Rules.{rules}
 use lib.ListN.{length}
 use Rattle.words.specs.declared.layout.Kind.TheVariants.{Instance}
 use Rattle.words.specs.Layout.{count_of}

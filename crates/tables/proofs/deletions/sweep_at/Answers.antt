@@ -1,7 +1,6 @@
 -- What is passed by stays as it is (`passed_stays`).
 use mathlib.Core.Path.{sym, ◌∙◌}
 use Rattle.tables.specs.Laws.Going.{passed_stays}
-use borrow.Author.Rules.{rules}
 use Rattle.tables.proofs.deletions.sweep_at.Goals as goal
 
 pub returns-then-is_passed : goal.returns-then-is_passed

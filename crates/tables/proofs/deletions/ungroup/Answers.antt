@@ -1,11 +1,6 @@
-use mathlib.Core.Path.{◌≡◌, refl, ◌∙◌}
-use Prim.Native.Nat.{◌≤◌, ◌-◌}
+use mathlib.Core.Path.{refl, ◌∙◌}
 use native.Mathlib.Numerals.{add-one}
 use native.Mathlib.Omega.{arith}
-use borrow.Author.Rules.{rules}
-use lib.ListN.{length}
-use Rattle.words.specs.declared.layout.Kind.TheVariants.{SchemaInstance}
-use Rattle.words.specs.Layout.{count_of}
 use Rattle.tables.specs.Deletions.{ungrouped}
 use Rattle.tables.proofs.deletions.ungroup.Goals as goal
 

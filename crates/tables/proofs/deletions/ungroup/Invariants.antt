@@ -1,9 +1,6 @@
 -- After s turns the first s sets are without the model. The measure is the sets left.
-use mathlib.Core.Path.{◌≡◌, refl, ◌∙◌}
+use mathlib.Core.Path.{◌≡◌}
 use Prim.Native.Nat.{◌≤◌, ◌-◌}
-use native.Mathlib.Numerals.{add-one}
-use native.Mathlib.Omega.{arith}
-use borrow.Author.Rules.{rules}
 use lib.ListN.{length}
 use Rattle.words.specs.declared.layout.Kind.TheVariants.{SchemaInstance}
 use Rattle.words.specs.Layout.{count_of}

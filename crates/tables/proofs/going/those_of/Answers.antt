@@ -1,12 +1,8 @@
 use mathlib.Core.Path.{◌≡◌, refl}
-use Prim.Native.Nat.{◌+◌, ◌-◌, ◌≤◌}
 use native.Mathlib.Nat.{zero-add}
 use native.Mathlib.Omega.{arith}
 use native.Mathlib.Numerals.{add-one}
-use borrow.Author.Rules.{rules}
-use Rattle.words.specs.declared.layout.Kind.TheVariants.{Model}
 use Rattle.words.specs.Sets.{bits, set_of}
-use Rattle.tables.specs.Deletions.{goes_with}
 use Rattle.tables.proofs.going.those_of.Goals as goal
 
 pub loop-i-init : goal.loop-i-init

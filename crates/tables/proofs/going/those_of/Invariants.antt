@@ -1,10 +1,6 @@
 -- After i turns those of the first i instances of each half are in its set. The measure is the turns left.
-use mathlib.Core.Path.{◌≡◌, refl}
+use mathlib.Core.Path.{◌≡◌}
 use Prim.Native.Nat.{◌+◌, ◌-◌, ◌≤◌}
-use native.Mathlib.Nat.{zero-add}
-use native.Mathlib.Omega.{arith}
-use native.Mathlib.Numerals.{add-one}
-use borrow.Author.Rules.{rules}
 use Rattle.words.specs.declared.layout.Kind.TheVariants.{Model}
 use Rattle.words.specs.Sets.{bits, set_of}
 use Rattle.tables.specs.Deletions.{goes_with}

@@ -1,17 +1,14 @@
-use borrow.Author.Rules.{rules}
 use Rattle.tables.specs.Sound.{same_name}
 use mathlib.Core.Path.{◌≡◌, refl, sym, ap, ◌∙◌}
-use mathlib.Core.Logic.{⊎_elim}
-use Prim.Native.Nat.{ℕ, ◌-◌, ◌≤◌, ◌<◌}
+use Prim.Native.Nat.{ℕ, ◌-◌, ◌<◌}
 use native.Mathlib.Omega.{arith}
 use lib.ListN.{get_or}
-use borrow.Author.Tests.{not-true, not-false, eq-eqb, ne_eqb}
-use Rattle.words.specs.Layout.{stride_of, count_of, place_of}
+use borrow.Author.Tests.{eq-eqb, ne_eqb}
+use Rattle.words.specs.Layout.{count_of}
 use Rattle.words.specs.Sets.{bits}
-use Rattle.words.specs.Laws.Layout.{in_use, stride_positive, stride_at_most}
 use Rattle.tables.specs.View.{label_at}
-use Rattle.tables.specs.Laws.Names.{Walked, walk_start, walk_less, walk_next, walk_found, walk_end}
-use Rattle.tables.specs.Laws.Labels.{Passed, first_word, next_place, first_place, none_passed, free_passed, label_passed, all_passed, no_label, not_new}
+use Rattle.tables.specs.Laws.Names.{walk_start, walk_next, walk_found, walk_end}
+use Rattle.tables.specs.Laws.Labels.{first_word, next_place, first_place, none_passed, free_passed, label_passed, all_passed, no_label, not_new}
 use Rattle.tables.proofs.labels.test_labels.Goals as goal
 use Rattle.tables.proofs.labels.test_labels.Goals.{then-label-ne0+else-not-is_label+else-loop-met-test, else-label-ne0}
 
@@ -129,11 +126,11 @@ loop-i-preserved c =
       the_loop.invariant.2,
       rw (the_loop.invariant.2, the_loop.invariant.3) (next_place a.kind the_loop.i),
       elim c.if-label-ne0.branch [
-        then-label-ne0+else-not-is_label+else-loop-met-test w ↦ rw (w.last-is, w.before-is, w.live-is, w.joined-live.ensures, w.schema_in.ensures, w.chain-b.ensures)
-          (label_passed a.t.now a.kind the_loop.last the_loop.before the_loop.live the_loop.i the_loop.invariant.4 few _ here
-          (sym w.is_label.ensures ∙ w.if-not-is_label.false) (walk_end a.t.now a.kind the_loop.i _ w.loop-met.invariant w.loop-met-test.false))
+        | then-label-ne0+else-not-is_label+else-loop-met-test w ↦ rw (w.last-is, w.before-is, w.live-is, w.joined-live.ensures, w.schema_in.ensures, w.chain-b.ensures)
+            (label_passed a.t.now a.kind the_loop.last the_loop.before the_loop.live the_loop.i the_loop.invariant.4 few _ here
+            (sym w.is_label.ensures ∙ w.if-not-is_label.false) (walk_end a.t.now a.kind the_loop.i _ w.loop-met.invariant w.loop-met-test.false))
         | else-label-ne0 w ↦ rw (w.last-is, w.before-is, w.live-is) (free_passed a.t.now a.kind the_loop.last the_loop.before the_loop.live the_loop.i the_loop.invariant.4
-          (rw here (eq-eqb _ _ w.if-label-ne0.false)))
+            (rw here (eq-eqb _ _ w.if-label-ne0.false)))
       ],
     )
 

@@ -7,7 +7,6 @@ use borrow.Author.Tests.{eq-eqb, ne_eqb}
 use Rattle.words.specs.Fields.{values}
 use Rattle.tables.specs.Quick.Pointers.{pointer_in, second}
 use Rattle.tables.specs.Laws.Pointers.{pointer_by_mark}
-use borrow.Author.Rules.{rules}
 use Rattle.tables.proofs.pointers.pointer_in.Goals as goal
 
 pub returns-then-header-mark-eq0 : goal.returns-then-header-mark-eq0

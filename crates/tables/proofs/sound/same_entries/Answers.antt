@@ -1,14 +1,8 @@
-use mathlib.Core.Path.{◌≡◌, refl}
-use Prim.Native.Nat.{◌≤◌, ◌-◌}
-use lib.Dec.{eqb}
+use mathlib.Core.Path.{refl}
 use lib.ListN.{get_or}
 use native.Mathlib.Omega.{arith}
 use native.Mathlib.Numerals.{add-one}
-use borrow.Author.Rules.{rules}
-use Rattle.words.specs.declared.layout.Kind.TheVariants.{Instance}
-use Rattle.words.specs.Layout.{base_of}
 use Rattle.logic.specs.Search.{all_b}
-use Rattle.words.specs.Copies.{same_at}
 use Rattle.words.specs.Laws.Copies.{no_difference}
 use Rattle.tables.proofs.sound.same_entries.Goals as goal
 

@@ -1,16 +1,11 @@
 -- `differing` is 0 exactly if all words passed are the same. The measure is the words left.
-use mathlib.Core.Path.{◌≡◌, refl}
+use mathlib.Core.Path.{◌≡◌}
 use Prim.Native.Nat.{◌≤◌, ◌-◌}
 use lib.Dec.{eqb}
-use lib.ListN.{get_or}
-use native.Mathlib.Omega.{arith}
-use native.Mathlib.Numerals.{add-one}
-use borrow.Author.Rules.{rules}
 use Rattle.words.specs.declared.layout.Kind.TheVariants.{Instance}
 use Rattle.words.specs.Layout.{base_of}
 use Rattle.logic.specs.Search.{all_b}
 use Rattle.words.specs.Copies.{same_at}
-use Rattle.words.specs.Laws.Copies.{no_difference}
 use Rattle.tables.proofs.sound.same_entries.Given as goal
 
 abbrev pub invariant-loop-i : goal.invariant-loop-i

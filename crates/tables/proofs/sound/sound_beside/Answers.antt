@@ -1,8 +1,6 @@
 -- Where the entries are the same, so are the live models, and beside the cursors the instances alone decide.
 use mathlib.Core.Path.{sym, ◌∙◌}
-use borrow.Author.Tests.{not-true, not-false}
 use Rattle.tables.specs.Laws.Labels.{cursors_unsound, sound_by_instances, live_alike, entries_alike}
-use borrow.Author.Rules.{rules}
 use Rattle.tables.proofs.sound.sound_beside.Goals as goal
 
 pub returns-then-not-sound_cursors : goal.returns-then-not-sound_cursors

@@ -6,7 +6,6 @@ use Rattle.words.specs.Fields.{is_free}
 use Rattle.words.specs.Entries.{free_at}
 use Rattle.tables.specs.Sound.{sound_group}
 use Rattle.tables.specs.Laws.Live.{group_by_sets}
-use borrow.Author.Rules.{rules}
 use Rattle.tables.proofs.sound.sound_group.Goals as goal
 
 pub returns-then-is_free : goal.returns-then-is_free

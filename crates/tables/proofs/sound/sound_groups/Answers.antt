@@ -1,14 +1,10 @@
-use mathlib.Core.Path.{◌≡◌, refl, sym, ◌∙◌}
-use mathlib.Core.Bool.{true}
-use Prim.Native.Nat.{◌≤◌, ◌-◌}
+use mathlib.Core.Path.{refl, sym, ◌∙◌}
 use native.Mathlib.Omega.{arith}
-use borrow.Author.Rules.{rules}
-use borrow.Author.Tests.{not-true, not-false}
 use Rattle.words.specs.declared.layout.Kind.TheVariants.{SchemaInstance}
 use Rattle.words.specs.Layout.{count_of}
 use Rattle.logic.specs.Search.{all_b}
 use Rattle.logic.specs.Laws.Bools.{and_left}
-use Rattle.logic.specs.Laws.Search.{all_more, all_at, all_stop, all_done}
+use Rattle.logic.specs.Laws.Search.{all_more, all_at, all_stop}
 use Rattle.tables.specs.Sound.{sound_group}
 use Rattle.tables.specs.Quick.Labels.{labelled}
 use Rattle.tables.proofs.sound.sound_groups.Goals as goal

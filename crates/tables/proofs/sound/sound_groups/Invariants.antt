@@ -1,17 +1,11 @@
 -- Every schema instance passed is sound. The measure is those left.
-use mathlib.Core.Path.{◌≡◌, refl, sym, ◌∙◌}
+use mathlib.Core.Path.{◌≡◌}
 use mathlib.Core.Bool.{true}
 use Prim.Native.Nat.{◌≤◌, ◌-◌}
-use native.Mathlib.Omega.{arith}
-use borrow.Author.Rules.{rules}
-use borrow.Author.Tests.{not-true, not-false}
 use Rattle.words.specs.declared.layout.Kind.TheVariants.{SchemaInstance}
 use Rattle.words.specs.Layout.{count_of}
 use Rattle.logic.specs.Search.{all_b}
-use Rattle.logic.specs.Laws.Bools.{and_left}
-use Rattle.logic.specs.Laws.Search.{all_more, all_at, all_stop, all_done}
 use Rattle.tables.specs.Sound.{sound_group}
-use Rattle.tables.specs.Quick.Labels.{labelled}
 use Rattle.tables.proofs.sound.sound_groups.Given as goal
 
 abbrev pub invariant-loop-s : goal.invariant-loop-s

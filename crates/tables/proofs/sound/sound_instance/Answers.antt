@@ -4,7 +4,6 @@ use borrow.Author.Tests.{eq-eqb, ne_eqb}
 use Rattle.words.specs.declared.layout.Kind.TheVariants.{Instance}
 use Rattle.words.specs.Layout.{place_of}
 use Rattle.tables.specs.Laws.Values.{fits_there}
-use borrow.Author.Rules.{rules}
 use Rattle.tables.proofs.sound.sound_instance.Goals as goal
 
 pub returns-then-h-eq0 : goal.returns-then-h-eq0

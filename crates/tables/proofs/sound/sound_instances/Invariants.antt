@@ -1,16 +1,11 @@
 -- Every instance passed fits, and all fit exactly if all are sound (`instances_by_parts`). The measure is those left.
-use mathlib.Core.Path.{◌≡◌, refl, sym, ◌∙◌}
+use mathlib.Core.Path.{◌≡◌}
 use mathlib.Core.Bool.{true}
 use Prim.Native.Nat.{◌≤◌, ◌-◌}
-use native.Mathlib.Omega.{arith}
-use borrow.Author.Rules.{rules}
-use borrow.Author.Tests.{not-true, not-false}
 use Rattle.words.specs.declared.layout.Kind.TheVariants.{Instance}
 use Rattle.words.specs.Layout.{count_of}
 use Rattle.logic.specs.Search.{all_b}
-use Rattle.logic.specs.Laws.Search.{all_more, all_stop, all_done}
 use Rattle.tables.specs.Quick.Values.{instance_fits}
-use Rattle.tables.specs.Laws.Values.{instances_by_parts}
 use Rattle.tables.proofs.sound.sound_instances.Given as goal
 
 abbrev pub invariant-loop-i : goal.invariant-loop-i

@@ -6,11 +6,10 @@ use Rattle.tables.specs.Quick.Live.{live_in}
 use mathlib.Core.Path.{◌≡◌, sym, ◌∙◌}
 use Prim.Native.Nat.{◌≤◌}
 use lib.ListN.{length}
-use borrow.Author.Tests.{not-true, not-false, leb-true}
+use borrow.Author.Tests.{leb-true}
 use Rattle.words.specs.Layout.{words}
 use Rattle.logic.specs.Laws.Bools.{and_ended}
 use Rattle.tables.specs.Laws.Labels.{sound_told, unsound_told, short_unsound, cursors_unsound, entries_unsound, instances_unsound, sound_by_instances}
-use borrow.Author.Rules.{rules}
 use Rattle.tables.proofs.sound.sound_pair.Goals as goal
 
 pub returns-then-not-is_long : goal.returns-then-not-is_long

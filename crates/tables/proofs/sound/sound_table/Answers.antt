@@ -5,11 +5,10 @@ use mathlib.Core.Path.{◌≡◌, sym, ◌∙◌}
 use mathlib.Core.Bool.{true}
 use Prim.Native.Nat.{◌≤◌}
 use lib.ListN.{length}
-use borrow.Author.Tests.{not-true, not-false, leb-true}
+use borrow.Author.Tests.{leb-true}
 use Rattle.words.specs.declared.layout.Kind.TheVariants.{Model}
 use Rattle.words.specs.Layout.{words}
 use Rattle.tables.specs.Laws.Labels.{sound_told, unsound_told, short_unsound, cursors_unsound, entries_unsound, sound_by_instances}
-use borrow.Author.Rules.{rules}
 use Rattle.tables.proofs.sound.sound_table.Goals as goal
 
 pub returns-then-not-is_long : goal.returns-then-not-is_long

@@ -1,7 +1,6 @@
 -- Tables that agree are alike sound, so one of them tells. Else both are looked at, and only while writing.
 use mathlib.Core.Path.{sym, ◌∙◌}
 use mathlib.Core.Bool.{◌&&◌, and-true}
-use borrow.Author.Rules.{rules}
 use Rattle.tables.specs.Sound.{sound_table}
 use Rattle.logic.specs.Laws.Bools.{and_ended}
 use Rattle.tables.specs.Laws.Sound.{sound_agreeing, sound_apart}

@@ -1,13 +1,11 @@
 -- A table that is blank there is sound there; else the tests are the definition's in its order, and the first that fails decides.
 use mathlib.Core.Path.{◌≡◌, sym, ap, ◌∙◌}
 use mathlib.Core.Bool.{true}
-use borrow.Author.Tests.{not-true, not-false}
 use Rattle.words.specs.declared.layout.Kind.TheVariants.{Model, SchemaInstance}
 use Rattle.tables.specs.declared.labels.Tested.TheVariants.{Sound}
 use Rattle.tables.specs.Quick.Live.{live_in}
 use Rattle.tables.specs.Quick.Labels.{sound_labels, is_blank}
 use Rattle.tables.specs.Laws.Labels.{sound_told, unsound_told, entries_by_labels, blank_entries, blank_live}
-use borrow.Author.Rules.{rules}
 use Rattle.tables.proofs.sound.test_entries.Goals as goal
 
 pub returns-then-is_blank : goal.returns-then-is_blank

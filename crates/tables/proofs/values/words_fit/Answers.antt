@@ -1,7 +1,6 @@
 -- What is gathered is nothing exactly if each part is as it should be (`words_by_one`).
 use Rattle.tables.specs.Quick.Values.{strays_in}
 use Rattle.tables.specs.Laws.Values.{words_by_one}
-use borrow.Author.Rules.{rules}
 use Rattle.tables.proofs.values.words_fit.Goals as goal
 
 pub returns : goal.returns

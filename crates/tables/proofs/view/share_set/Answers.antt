@@ -1,15 +1,13 @@
-use mathlib.Core.Path.{◌≡◌, refl, sym, ap, ◌∙◌}
-use mathlib.Core.Bool.{Bool, false, ◌&&◌}
-use mathlib.Core.List.{List}
-use Prim.Native.Nat.{ℕ, ◌≤◌, ◌-◌}
+use mathlib.Core.Path.{refl, sym, ap, ◌∙◌}
+use mathlib.Core.Bool.{◌&&◌}
+use Prim.Native.Nat.{ℕ}
 use native.Mathlib.Omega.{arith}
-use borrow.Author.Rules.{rules}
 use Rattle.words.specs.declared.layout.Kind.TheVariants.{SchemaInstance}
 use Rattle.words.specs.Layout.{count_of}
 use Rattle.logic.specs.Search.{any_b}
 use Rattle.words.specs.Sets.{has}
 use Rattle.logic.specs.Laws.Search.{none_more, any_stop, none_done}
-use Rattle.tables.specs.View.{set_at, share_set}
+use Rattle.tables.specs.View.{share_set}
 use Rattle.tables.proofs.view.share_set.Invariants.{in_both}
 use Rattle.tables.proofs.view.share_set.Goals as goal
 

@@ -1,13 +1,9 @@
-use mathlib.Core.Path.{◌≡◌, refl, sym}
-use Prim.Native.Nat.{◌-◌, ◌≤◌}
-use lib.Dec.{eqb}
+use mathlib.Core.Path.{refl}
 use lib.ListN.{get_or}
 use native.Mathlib.Omega.{arith}
 use native.Mathlib.Numerals.{add-one}
-use Rattle.words.specs.Layout.{words}
 use Rattle.logic.specs.Search.{all_b}
-use Rattle.words.specs.Copies.{same_at}
-use Rattle.words.specs.Laws.Copies.{no_difference, short_left, short_right, both_long}
+use Rattle.words.specs.Laws.Copies.{no_difference}
 use Rattle.words.proofs.copies.agree.Goals as goal
 
 pub loop-i-init : goal.loop-i-init

@@ -1,14 +1,10 @@
 -- `differing` is 0 exactly if all words passed agree. The measure is the words left.
-use mathlib.Core.Path.{◌≡◌, refl, sym}
+use mathlib.Core.Path.{◌≡◌}
 use Prim.Native.Nat.{◌-◌, ◌≤◌}
 use lib.Dec.{eqb}
-use lib.ListN.{get_or}
-use native.Mathlib.Omega.{arith}
-use native.Mathlib.Numerals.{add-one}
 use Rattle.words.specs.Layout.{words}
 use Rattle.logic.specs.Search.{all_b}
 use Rattle.words.specs.Copies.{same_at}
-use Rattle.words.specs.Laws.Copies.{no_difference, short_left, short_right, both_long}
 use Rattle.words.proofs.copies.agree.Given as goal
 
 abbrev pub invariant-loop-i : goal.invariant-loop-i

@@ -1,11 +1,9 @@
-use mathlib.Core.Path.{◌≡◌, refl, ap, ◌∙◌}
+use mathlib.Core.Path.{ap, ◌∙◌}
 use mathlib.Core.List.{List, ◌++◌}
-use Prim.Native.Nat.{ℕ, ◌≤◌, ◌-◌}
+use Prim.Native.Nat.{ℕ}
 use native.Mathlib.Omega.{arith}
-use borrow.Author.Rules.{rules}
-use lib.ListN.{length, set, take, drop, length-set, length-take, get_or}
+use lib.ListN.{set, take, drop, length-set, get_or}
 use Rattle.words.specs.Layout.{words}
-use Rattle.words.specs.Copies.{in_both}
 use Rattle.words.specs.Laws.Copies.{copy_more, copied_whole}
 use Rattle.words.proofs.copies.copy.Goals as goal
 

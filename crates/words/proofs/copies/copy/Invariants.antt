@@ -1,13 +1,9 @@
 -- Where both tables have all words in use they go by way of a block. Else, after i turns, the first i words are those of the
-use mathlib.Core.Path.{◌≡◌, refl, ap, ◌∙◌}
-use mathlib.Core.List.{List, ◌++◌}
-use Prim.Native.Nat.{ℕ, ◌≤◌, ◌-◌}
-use native.Mathlib.Omega.{arith}
-use borrow.Author.Rules.{rules}
-use lib.ListN.{length, set, take, drop, length-set, length-take, get_or}
-use Rattle.words.specs.Layout.{words}
+use mathlib.Core.Path.{◌≡◌}
+use mathlib.Core.List.{◌++◌}
+use Prim.Native.Nat.{◌≤◌, ◌-◌}
+use lib.ListN.{length, take, drop}
 use Rattle.words.specs.Copies.{in_both}
-use Rattle.words.specs.Laws.Copies.{copy_more, copied_whole}
 use Rattle.words.proofs.copies.copy.Given as goal
 
 -- source and the others stand; the measure is the words left.

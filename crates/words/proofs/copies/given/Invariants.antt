@@ -1,11 +1,9 @@
 -- After n turns the first n words are those of the block and the others stand. The measure is the words left.
-use mathlib.Core.Path.{◌≡◌, refl, ap, ◌∙◌}
-use mathlib.Core.List.{List, ◌++◌}
-use Prim.Native.Nat.{ℕ, ◌≤◌, ◌-◌}
-use native.Mathlib.Omega.{arith}
-use lib.ListN.{length, get_or, set, take, drop, length-set}
+use mathlib.Core.Path.{◌≡◌}
+use mathlib.Core.List.{◌++◌}
+use Prim.Native.Nat.{◌≤◌, ◌-◌}
+use lib.ListN.{length, take, drop}
 use Rattle.words.specs.Layout.{words}
-use Rattle.words.specs.Laws.Copies.{copy_more}
 use Rattle.words.proofs.copies.given.Given as goal
 
 abbrev pub invariant-loop-at : goal.invariant-loop-at

@@ -1,10 +1,10 @@
-use mathlib.Core.Path.{◌≡◌, refl, ap, ◌∙◌}
-use mathlib.Core.List.{List, ◌++◌}
-use Prim.Native.Nat.{ℕ, ◌≤◌, ◌-◌}
+use mathlib.Core.Path.{◌≡◌, ap, ◌∙◌}
+use mathlib.Core.List.{◌++◌}
+use Prim.Native.Nat.{ℕ}
 use native.Mathlib.Omega.{arith}
-use lib.ListN.{get_or, set, take, drop, replicate, length-replicate}
+use lib.ListN.{take, drop, length-replicate}
 use Rattle.words.specs.Layout.{words}
-use Rattle.words.specs.Laws.Copies.{copy_more, all_taken_lem}
+use Rattle.words.specs.Laws.Copies.{all_taken_lem}
 use Rattle.words.proofs.copies.taken.Invariants.{zeros}
 use Rattle.words.proofs.copies.taken.Goals as goal
 

@@ -1,11 +1,9 @@
 -- After i turns the first i words of the block are those of the source. The measure is the words left.
-use mathlib.Core.Path.{◌≡◌, refl, ap, ◌∙◌}
+use mathlib.Core.Path.{◌≡◌}
 use mathlib.Core.List.{List, ◌++◌}
 use Prim.Native.Nat.{ℕ, ◌≤◌, ◌-◌}
-use native.Mathlib.Omega.{arith}
-use lib.ListN.{get_or, set, take, drop, replicate, length-replicate}
+use lib.ListN.{take, drop, replicate}
 use Rattle.words.specs.Layout.{words}
-use Rattle.words.specs.Laws.Copies.{copy_more, all_taken_lem}
 use Rattle.words.proofs.copies.taken.Given as goal
 
 abbrev pub zeros : List ℕ

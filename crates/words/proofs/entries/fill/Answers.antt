@@ -1,13 +1,9 @@
 use borrow.Author.Tests.{ne_eqb}
-use mathlib.Core.Path.{◌≡◌, refl, ◌∙◌}
-use Prim.Native.Nat.{◌≤◌, ◌-◌, ◌+◌}
+use mathlib.Core.Path.{refl, ◌∙◌}
+use Prim.Native.Nat.{◌+◌}
 use native.Mathlib.Numerals.{add-one}
 use native.Mathlib.Omega.{arith}
-use borrow.Author.Rules.{rules}
-use lib.ListN.{length}
-use Rattle.words.specs.Layout.{stride_of}
-use Rattle.words.specs.Entries.{first_then_zeros, filled}
-use Rattle.words.specs.Laws.Layout.{stride_at_most}
+use Rattle.words.specs.Entries.{filled}
 use Rattle.words.proofs.entries.fill.Goals as goal
 
 pub loop-k-init : goal.loop-k-init

@@ -1,14 +1,9 @@
 -- After k turns the first k words stand in the entry, and the next one is the first or 0. The measure is what is left of the stride.
-use borrow.Author.Tests.{ne_eqb}
-use mathlib.Core.Path.{◌≡◌, refl, ◌∙◌}
-use Prim.Native.Nat.{◌≤◌, ◌-◌, ◌+◌}
-use native.Mathlib.Numerals.{add-one}
-use native.Mathlib.Omega.{arith}
-use borrow.Author.Rules.{rules}
+use mathlib.Core.Path.{◌≡◌}
+use Prim.Native.Nat.{◌≤◌, ◌-◌}
 use lib.ListN.{length}
 use Rattle.words.specs.Layout.{stride_of}
 use Rattle.words.specs.Entries.{first_then_zeros, filled}
-use Rattle.words.specs.Laws.Layout.{stride_at_most}
 use Rattle.words.proofs.entries.fill.Given as goal
 
 abbrev pub invariant-loop-k : goal.invariant-loop-k

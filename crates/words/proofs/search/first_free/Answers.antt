@@ -1,12 +1,8 @@
 use Rattle.words.specs.Fields.{is_free}
-use mathlib.Core.Path.{◌≡◌, refl, sym, ap, ◌∙◌}
-use Prim.Native.Nat.{◌-◌}
+use mathlib.Core.Path.{sym, ap, ◌∙◌}
 use native.Mathlib.Omega.{arith}
-use borrow.Author.Rules.{rules}
 use Rattle.words.specs.Layout.{count_of}
-use Rattle.logic.specs.Search.{first_from}
-use Rattle.words.specs.Entries.{first_free, free_at}
-use Rattle.words.specs.Laws.Layout.{count_at_most}
+use Rattle.words.specs.Entries.{free_at}
 use Rattle.logic.specs.Laws.Search.{first_hit, first_miss}
 use Rattle.words.specs.Laws.Present.{first_present}
 use Rattle.words.proofs.search.first_free.Goals as goal

@@ -1,13 +1,10 @@
-use mathlib.Core.Path.{◌≡◌, refl, sym, ap, ◌∙◌}
-use mathlib.Core.Bool.{false}
-use Prim.Native.Nat.{ℕ, ◌≤◌, ◌-◌}
+use mathlib.Core.Path.{refl, sym, ap, ◌∙◌}
+use Prim.Native.Nat.{ℕ}
 use native.Mathlib.Omega.{arith}
-use borrow.Author.Rules.{rules}
 use Rattle.words.specs.Layout.{count_of}
 use Rattle.logic.specs.Search.{any_b}
 use Rattle.words.specs.Fields.{is_named}
 use Rattle.words.specs.Entries.{word_of}
-use Rattle.words.specs.Laws.Layout.{count_at_most}
 use Rattle.logic.specs.Laws.Search.{none_more, any_stop}
 use Rattle.words.specs.Laws.Present.{none_present}
 use Rattle.words.proofs.search.is_taken.Goals as goal

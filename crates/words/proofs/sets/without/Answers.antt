@@ -1,9 +1,8 @@
 -- The machine's `and` with one bit is that bit's part of the word, and no part is above the whole.
 use Prim.Native.Nat.{ℕ, ◌-◌}
 use mathlib.Core.Path.{sym, ap, ◌∙◌}
-use lib.Bits.{and_le_l, bit_and}
+use lib.Bits.{bit_and}
 use Rattle.words.specs.Laws.Sets.{one_shifted, and_bit, remove_past}
-use borrow.Author.Rules.{rules}
 use Rattle.words.proofs.sets.without.Goals as goal
 
 pub returns-then-m-lt-BITS : goal.returns-then-m-lt-BITS
