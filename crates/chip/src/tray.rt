@@ -1,5 +1,5 @@
 // A whole tray at once (CHIP, trays): a row of orders, each answered as `chip_call` answers it, in that order.
-ghost use Rattle.std.specs.Prelude.{◌≡◌};
+ghost use Rattle.std.specs.Prelude.{◌≡◌, ◌<◌, ◌^◌};
 ghost use Rattle.chip.specs.Tray.{trayed, tray};
 ghost use Rattle.chip.specs.Quick.Turns.{taken_of, closing_of, turn_by, begun_with, turned, turn_of};
 ghost use Rattle.session.specs.Runs.{chip_of};
@@ -80,9 +80,11 @@ fn begun(x: Session, working: &[u64], kept: &[u64]) -> Turn
     turn_by(is_sound(x, working, kept), answer_of(DONE, 0, x))
 }
 
-// One order, on what the one before it left.
+// One order, on what the one before it left. That its last argument is a number of 32 bits is said for `chip_tray`, which reads
+// it from a row.
 fn next_turn(o: Order, t: Turn, working: &mut [u64], kept: &mut [u64]) -> Turn
-    ensures { turned result working.new kept.new ≡ turn_of o t working.old kept.old }
+    ensures turn { turned result working.new kept.new ≡ turn_of o t working.old kept.old }
+    ensures small { o.c < 2 ^ 32 }
 {
     let x = t.session;
     if !t.sound {
@@ -99,7 +101,7 @@ fn next_turn(o: Order, t: Turn, working: &mut [u64], kept: &mut [u64]) -> Turn
     turn_by(true, finished(o.op, x, r.refusal, r.value, state))
 }
 
-// The checker does not follow a slice of structs by itself: this function is proved by hand, and so it only moves structs.
+// It only moves structs: what branches stands in the functions that it calls.
 #[unsafe(no_mangle)]
 pub extern "C" fn chip_tray(
     orders: &[Order],

@@ -136,7 +136,7 @@ module _ (orders : List Order) (row : List Result) (begun : Chip) where
 -- ---- the whole row
 
 module _ (orders : List Order) (row : List Result) (begun : Chip) where
-  abbrev closed : Bool → Standing → Trayed
+  abbrev pub closed : Bool → Standing → Trayed
   closed b z = trayed (cond b (answer done 0 z.after.turn.session) (answer (SY_ERR on 0) 0 z.after.turn.session)) z.answers z.after.working z.after.kept
 
   whole : Stands orders row begun (length orders) (standing_at orders row begun (length orders)) → closed true (standing_at orders row begun (length orders)) ≡ all_taken orders row begun
