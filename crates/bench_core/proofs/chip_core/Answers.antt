@@ -1,0 +1,18 @@
+-- As `core` is proved: what is served is the definition's effect, and the answer is that of its log.
+use mathlib.Core.Path.{sym, ◌∙◌}
+use Rattle.session.specs.Laws.Served.{served_core, served_carried}
+use borrow.Author.Rules.{rules}
+use Rattle.bench_core.proofs.chip_core.Goals as goal
+
+pub returns-then-log_stays : goal.returns-then-log_stays
+returns-then-log_stays c =
+    let at_serve = c in
+    let a = at_serve.args in
+    rw c.carried.ensures
+    (served_carried a.op _ _ _ a.x _ _ _ _ _ at_serve.serve-r.ensures (sym c.log_stays.ensures ∙ c.if-log_stays.true))
+
+pub returns : goal.returns
+returns c =
+    let at_serve = c in
+    let a = at_serve.args in
+    rw c.finished.ensures (served_core a.op _ _ _ a.x _ _ _ _ _ at_serve.serve-r.ensures)
