@@ -3,6 +3,7 @@ use crate::printing::{is_done, line};
 use session::call::call;
 use state::events::blank_log;
 use state::state::{Session, closed_state};
+use std::io;
 use words::layout::WORDS;
 
 // All that a reader holds between two calls.
@@ -25,30 +26,38 @@ pub fn fresh() -> Chip {
 }
 
 // A call; it is printed if the case is about it, or if it is refused.
-fn ask(chip: Chip, op: u32, a: u32, b: u32, c: u32, about: bool) -> Chip {
+fn ask(
+    rt: &HostRuntime,
+    chip: Chip,
+    op: u32,
+    a: u32,
+    b: u32,
+    c: u32,
+    about: bool,
+) -> io::Result<Chip> {
     let session = chip.session;
     let mut working = chip.working;
     let mut kept = chip.kept;
     let answer = call(op, a, b, c, session, &mut working, &mut kept);
     if about | !is_done(answer.refusal) {
-        line(op, a, b, c, answer.refusal, answer.place, answer.value);
+        line(rt, op, a, b, c, answer.refusal, answer.place, answer.value)?;
     }
     let session = answer.session;
-    Chip {
+    Ok(Chip {
         session,
         working,
         kept,
-    }
+    })
 }
 
 // A call that the case is about.
-pub fn show(chip: Chip, op: u32, a: u32, b: u32, c: u32) -> Chip {
-    ask(chip, op, a, b, c, true)
+pub fn show(rt: &HostRuntime, chip: Chip, op: u32, a: u32, b: u32, c: u32) -> io::Result<Chip> {
+    ask(rt, chip, op, a, b, c, true)
 }
 
 // A call that leads there: it is done, or the program says otherwise.
-pub fn lead(chip: Chip, op: u32, a: u32, b: u32, c: u32) -> Chip {
-    ask(chip, op, a, b, c, false)
+pub fn lead(rt: &HostRuntime, chip: Chip, op: u32, a: u32, b: u32, c: u32) -> io::Result<Chip> {
+    ask(rt, chip, op, a, b, c, false)
 }
 
 // Which argument of a call counts up.
@@ -60,29 +69,47 @@ pub enum Counting {
     None,
 }
 
-fn lead_one(chip: Chip, op: u32, a: u32, b: u32, c: u32, counting: Counting, i: u32) -> Chip {
+fn lead_one(
+    rt: &HostRuntime,
+    chip: Chip,
+    op: u32,
+    a: u32,
+    b: u32,
+    c: u32,
+    counting: Counting,
+    i: u32,
+) -> io::Result<Chip> {
     match counting {
-        Counting::A => lead(chip, op, i, b, c),
-        Counting::B => lead(chip, op, a, i, c),
-        Counting::C => lead(chip, op, a, b, i),
-        Counting::None => lead(chip, op, a, b, c),
+        Counting::A => lead(rt, chip, op, i, b, c),
+        Counting::B => lead(rt, chip, op, a, i, c),
+        Counting::C => lead(rt, chip, op, a, b, i),
+        Counting::None => lead(rt, chip, op, a, b, c),
     }
 }
 
 // The same call n times, with one argument counting from 0.
-pub fn lead_all(start: Chip, op: u32, a: u32, b: u32, c: u32, counting: Counting, n: u32) -> Chip {
+pub fn lead_all(
+    rt: &HostRuntime,
+    start: Chip,
+    op: u32,
+    a: u32,
+    b: u32,
+    c: u32,
+    counting: Counting,
+    n: u32,
+) -> io::Result<Chip> {
     let mut chip = start;
     let mut i = 0;
     while i < n {
-        chip = lead_one(chip, op, a, b, c, counting, i);
+        chip = lead_one(rt, chip, op, a, b, c, counting, i)?;
         i += 1;
     }
-    chip
+    Ok(chip)
 }
 
 // A session with repository 0 open and a read-write transaction.
-pub fn started() -> Chip {
-    let c = lead(fresh(), 1, 0, 0, 0);
-    let c = lead(c, 3, 0, 0, 0);
-    lead(c, 5, 0, 0, 0)
+pub fn started(rt: &HostRuntime) -> io::Result<Chip> {
+    let c = lead(rt, fresh(), 1, 0, 0, 0)?;
+    let c = lead(rt, c, 3, 0, 0, 0)?;
+    lead(rt, c, 5, 0, 0, 0)
 }

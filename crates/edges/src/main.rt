@@ -16,15 +16,17 @@ mod schema_instances;
 mod spreading;
 mod subtypes;
 
-fn main() {
-    models::run();
-    schema_instances::run();
-    instances::run();
-    spreading::run();
-    references::run();
-    access::run();
-    deletions::run();
-    subtypes::run();
-    places::run();
-    events::run();
+use std::io;
+
+fn main(rt: HostRuntime) -> io::Result<()> {
+    models::run(&rt)?;
+    schema_instances::run(&rt)?;
+    instances::run(&rt)?;
+    spreading::run(&rt)?;
+    references::run(&rt)?;
+    access::run(&rt)?;
+    deletions::run(&rt)?;
+    subtypes::run(&rt)?;
+    places::run(&rt)?;
+    events::run(&rt)
 }

@@ -1,23 +1,23 @@
 // What the program prints: names of cases, calls with their answers, events.
 ghost use Rattle.std.specs.Prelude.{◌≤◌};
 
-use libc::STDOUT_FILENO;
 use state::refusals;
 use state::state::{Event, Log};
+use std::io;
 
-pub fn text(bytes: &[u8]) {
-    io::write_all(STDOUT_FILENO, bytes);
+pub fn text(rt: &HostRuntime, bytes: &[u8]) -> io::Result<()> {
+    rt.write_all(bytes)
 }
 
-pub fn number_after(bytes: &[u8], n: u32) {
-    text(bytes);
-    io::print_decimal(STDOUT_FILENO, n as u64);
+pub fn number_after(rt: &HostRuntime, bytes: &[u8], n: u32) -> io::Result<()> {
+    text(rt, bytes)?;
+    print!(rt; "{n}")
 }
 
 // The name of a case.
-pub fn title(name: &[u8]) {
-    text(name);
-    text(b"\n");
+pub fn title(rt: &HostRuntime, name: &[u8]) -> io::Result<()> {
+    text(rt, name)?;
+    text(rt, b"\n")
 }
 
 // A refusal by the page's name, with blanks up to seven letters.
@@ -73,12 +73,12 @@ fn letters(name: [u8; 7]) -> usize
 }
 
 // A refusal and its place.
-fn refusal_after(bytes: &[u8], refusal: u16, place: u16) {
+fn refusal_after(rt: &HostRuntime, bytes: &[u8], refusal: u16, place: u16) -> io::Result<()> {
     let name = name((refusal % 0x100) as u8);
     let n = letters(name);
-    text(bytes);
-    text(&name[0..n]);
-    number_after(b" on ", place as u32);
+    text(rt, bytes)?;
+    text(rt, &name[0..n])?;
+    number_after(rt, b" on ", place as u32)
 }
 
 pub fn is_done(refusal: u16) -> bool {
@@ -86,32 +86,42 @@ pub fn is_done(refusal: u16) -> bool {
 }
 
 // A call: its operation and arguments, and its value or its refusal on its place.
-pub fn line(op: u32, a: u32, b: u32, c: u32, refusal: u16, place: u16, value: u32) {
-    number_after(b"  ", op);
-    number_after(b"(", a);
-    number_after(b", ", b);
-    number_after(b", ", c);
+pub fn line(
+    rt: &HostRuntime,
+    op: u32,
+    a: u32,
+    b: u32,
+    c: u32,
+    refusal: u16,
+    place: u16,
+    value: u32,
+) -> io::Result<()> {
+    number_after(rt, b"  ", op)?;
+    number_after(rt, b"(", a)?;
+    number_after(rt, b", ", b)?;
+    number_after(rt, b", ", c)?;
     if is_done(refusal) {
-        number_after(b"): ", value);
+        number_after(rt, b"): ", value)?;
     } else {
-        refusal_after(b"): ", refusal, place);
+        refusal_after(rt, b"): ", refusal, place)?;
     }
-    text(b"\n");
+    text(rt, b"\n")
 }
 
-fn event(e: Event) {
-    number_after(b"  ", e.op);
-    refusal_after(b": ", e.refusal as u16, e.place as u16);
-    text(b"\n");
+fn event(rt: &HostRuntime, e: Event) -> io::Result<()> {
+    number_after(rt, b"  ", e.op)?;
+    refusal_after(rt, b": ", e.refusal as u16, e.place as u16)?;
+    text(rt, b"\n")
 }
 
 // The events of a full log, the oldest first.
-pub fn events(log: Log) {
+pub fn events(rt: &HostRuntime, log: Log) -> io::Result<()> {
     let slots = log.events;
     let mut i: usize = 0;
     while i < 16 {
         let e = slots[i];
-        event(e);
+        event(rt, e)?;
         i += 1;
     }
+    Ok(())
 }

@@ -5,32 +5,34 @@
 mod blocks;
 mod reads;
 
-ghost use Rattle.std.specs.Prelude.{◌≡◌, true, false, List, ℕ, ◌≤◌, ◌<◌, ◌+◌, length, take};
+ghost use Rattle.std.specs.Prelude.{◌≡◌, true, false, List, ℕ, ◌≤◌, ◌<◌, ◌+◌, length, take, IfOk};
 ghost use Rattle.records.specs.Records.{size};
 ghost use Rattle.reader.specs.Blocks.{block_records, block_size, out_size, here};
 ghost use Rattle.reader.specs.Reads.{between, after_read, silent, flushed};
 
 use blocks::{BLOCK, OUT, Run, fresh};
-use libc::{STDERR_FILENO, STDIN_FILENO, STDOUT_FILENO};
 use reads::{Stand, run_last, run_read};
+use std::io;
+use std::io::Read;
 use words::layout::WORDS;
 
 // A proved loop has to end. So many reads take centuries.
 const TURNS: u64 = 0x20_0000_0000_0000;
 
 // What has come, behind the bytes held.
-fn fetch(held: usize, block: &mut [u8]) -> isize
+fn fetch(rt: &HostRuntime, held: usize, block: &mut [u8]) -> io::Result<usize>
     requires { held ≤ length block.old }
-    ensures { take held block.new ≡ take held block.old }
+    ensures kept { take held block.new ≡ take held block.old }
+    ensures within { IfOk result (λ got. held + got ≤ length block.old) }
 {
-    libc::read(STDIN_FILENO, &mut block[held..])
+    rt.stdin().read(&mut block[held..])
 }
 
 // The program stops, and says why on standard error.
-fn halted(run: Run, why: &[u8]) -> Run
+fn halted(rt: &HostRuntime, run: Run, why: &str) -> Run
     ensures { (result.at ≡ 0) × (result.done ≡ run.done) × (result.on ≡ false) }
 {
-    io::write_all(STDERR_FILENO, why);
+    rt.eprintln(why).ok();
     let session = run.session;
     Run {
         session,
@@ -41,13 +43,13 @@ fn halted(run: Run, why: &[u8]) -> Run
 }
 
 // The text goes out. A write that fails stops the program.
-fn sent(run: Run, out: &[u8]) -> Run
+fn sent(rt: &HostRuntime, run: Run, out: &[u8]) -> Run
     requires { run.at ≤ length out.now }
     ensures { (result.at ≡ 0) × (result.done ≡ run.done) × (result.on ≡ true → (o w k : List ℕ) → here result o w k ≡ silent (here run o w k)) }
 {
     let at = run.at;
-    if !io::write_all(STDOUT_FILENO, &out[0..at]) {
-        return halted(run, b"reader: the output cannot be written\n");
+    if rt.write_all(&out[0..at]).is_err() {
+        return halted(rt, run, "reader: the output cannot be written");
     }
     let session = run.session;
     Run {
@@ -60,6 +62,7 @@ fn sent(run: Run, out: &[u8]) -> Run
 
 // One read: what has come, what it prints, and whether the program goes on. If it does, it stands behind some bytes more.
 fn turn(
+    rt: &HostRuntime,
     start: Stand,
     block: &mut [u8],
     out: &mut [u8],
@@ -74,30 +77,28 @@ fn turn(
 {
     let run = start.run;
     let held = start.held;
-    let came = fetch(held, block);
-    if came < 0 {
+    let Ok(got) = fetch(rt, held, block) else {
         return Stand {
-            run: halted(run, b"reader: the input cannot be read\n"),
+            run: halted(rt, run, "reader: the input cannot be read"),
             held: 0,
         };
-    }
-    let got = io::count(came, &block[held..]);
+    };
     if got == 0 {
         let run = run_last(run, held, block, out, working, kept);
         return Stand {
-            run: sent(run, out),
+            run: sent(rt, run, out),
             held: 0,
         };
     }
     let next = run_read(run, held, block, got, out, working, kept);
     let run = next.run;
     Stand {
-        run: sent(run, out),
+        run: sent(rt, run, out),
         held: next.held,
     }
 }
 
-fn serve(block: &mut [u8], out: &mut [u8], working: &mut [u64], kept: &mut [u64])
+fn serve(rt: &HostRuntime, block: &mut [u8], out: &mut [u8], working: &mut [u64], kept: &mut [u64])
     requires { (length block.old ≡ block_size) × (length out.old ≡ out_size) }
 {
     let mut stand = Stand {
@@ -106,15 +107,15 @@ fn serve(block: &mut [u8], out: &mut [u8], working: &mut [u64], kept: &mut [u64]
     };
     let mut turns = 0;
     while stand.run.on & (turns < TURNS) {
-        stand = turn(stand, block, out, working, kept);
+        stand = turn(rt, stand, block, out, working, kept);
         turns += 1;
     }
 }
 
-fn main() {
+fn main(rt: HostRuntime) {
     let mut block = [0u8; BLOCK];
     let mut out = [0u8; OUT];
     let mut working = [0u64; WORDS];
     let mut kept = [0u64; WORDS];
-    serve(&mut block, &mut out, &mut working, &mut kept);
+    serve(&rt, &mut block, &mut out, &mut working, &mut kept);
 }

@@ -2,7 +2,6 @@
 use native.Mathlib.Omega.{arith}
 use mathlib.Core.Path.{refl}
 use Rattle.records.specs.Laws.Writing.{number_ended}
-use borrow.Author.Rules.{rules}
 use Rattle.records.proofs.lines.field.Goals as goal
 
 pub returns : goal.returns

@@ -1,12 +1,9 @@
-use native.Mathlib.Nat.{add-zero}
 use native.Mathlib.Omega.{arith}
-use borrow.Author.Rules.{rules}
 use mathlib.Core.Path.{◌≡◌, refl, sym, ap, ◌∙◌}
 use mathlib.Core.List.{List}
 use Prim.Native.Nat.{ℕ, suc, ◌≤◌, ◌<◌, ◌-◌, ◌+◌}
-use lib.ListN.{length, take, drop, set, length-set, drop_of_length-le}
+use lib.ListN.{length, set, length-set, drop_of_length-le}
 use lib.Seq.{take_all}
-use Rattle.records.specs.Lines.{over}
 use Rattle.records.specs.Laws.Decimal.{digits, length_digits}
 use Rattle.records.specs.Laws.Writing.{over_nothing, digits_before, digit_more}
 use Rattle.records.proofs.lines.spell.Goals as goal

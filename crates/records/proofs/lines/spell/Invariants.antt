@@ -1,15 +1,9 @@
 -- The digits from i on stand, and the first i are those of the rest. The measure is i.
-use native.Mathlib.Nat.{add-zero}
-use native.Mathlib.Omega.{arith}
-use borrow.Author.Rules.{rules}
-use mathlib.Core.Path.{◌≡◌, refl, sym, ap, ◌∙◌}
-use mathlib.Core.List.{List}
-use Prim.Native.Nat.{ℕ, suc, ◌≤◌, ◌<◌, ◌-◌, ◌+◌}
-use lib.ListN.{length, take, drop, set, length-set, drop_of_length-le}
-use lib.Seq.{take_all}
+use mathlib.Core.Path.{◌≡◌}
+use Prim.Native.Nat.{◌≤◌, ◌+◌}
+use lib.ListN.{length, take, drop}
 use Rattle.records.specs.Lines.{over}
-use Rattle.records.specs.Laws.Decimal.{digits, length_digits}
-use Rattle.records.specs.Laws.Writing.{over_nothing, digits_before, digit_more}
+use Rattle.records.specs.Laws.Decimal.{digits}
 use Rattle.records.proofs.lines.spell.Given as goal
 
 abbrev pub invariant-loop-i : goal.invariant-loop-i

@@ -1,8 +1,7 @@
 -- `before` digits are counted off and the rest has those that are left; it has at most as many as are left to count, so the count ends below twenty. The measure is the rest.
-use native.Mathlib.Omega.{arith}
 use mathlib.Core.Path.{◌≡◌}
 use Prim.Native.Nat.{◌<◌, ◌-◌, ◌^◌, ◌+◌}
-use Rattle.records.specs.Laws.Decimal.{width_in, width_of, tens_below, width_more, width_last, still_below}
+use Rattle.records.specs.Laws.Decimal.{width_in, width_of}
 use Rattle.records.proofs.lines.width.Given as goal
 
 abbrev pub invariant-loop-rest : goal.invariant-loop-rest
