@@ -1,3 +1,2 @@
 pub mod Tray
 pub mod Quick
-pub mod Laws

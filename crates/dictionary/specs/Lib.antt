@@ -1,4 +1,3 @@
 pub mod Dictionary
 pub mod Subtype
 pub mod Quick
-pub mod Laws

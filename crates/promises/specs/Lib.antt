@@ -1,8 +1,6 @@
 pub mod Refusal
-pub mod Fresh
 pub mod Stays
 pub mod Reached
-pub mod Core
 pub mod Beyond
 pub mod Keeps
 pub mod Records

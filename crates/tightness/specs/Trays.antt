@@ -11,7 +11,7 @@ use Rattle.session.specs.Runs.{Call, Answered, Chip, chip_of, left, answered_by,
 use Rattle.chip.specs.declared.tray.Order.{Order}
 use Rattle.chip.specs.declared.tray.Result.{Result}
 use Rattle.chip.specs.Tray.{Trayed, trayed, asked, result_of, results, all_taken, none_taken, tray}
-use Rattle.chip.specs.Laws.Tray.{history_length, asked_length, results_length}
+use Rattle.chip.proofs.Laws.Tray.{history_length, asked_length, results_length}
 use Rattle.chip.specs.contracts.tray.chip_tray as chip-tray
 
 -- ---- the contract

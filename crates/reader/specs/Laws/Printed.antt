@@ -10,8 +10,8 @@ use Rattle.records.specs.declared.decoding.Found.TheVariants.{Whole, Bad}
 use Rattle.records.specs.Records.{size, marked, long_at, fields_of}
 use Rattle.session.specs.Step.{core}
 use Rattle.session.specs.Runs.{Call, Answered, Machine, Chip, fresh_chip, outcome_by, after_by, history_by, history}
-use Rattle.promises.specs.Fresh.{fresh_chip_lem}
-use Rattle.promises.specs.Reached.{core_alike, same_history}
+use Rattle.promises.proofs.Fresh.{fresh_chip_lem}
+use Rattle.promises.proofs.Reached.{core_alike, same_history}
 use Rattle.reader.specs.Blocks.{Here, after_call, after_record, after_bad, after_found, after_records, after_bytes, after_end, start}
 use Rattle.reader.specs.Printed.{Input, call_of, with_record, input_in, input_of, lines_of, last_line, printed, whole_in, whole_of, printed_so_far, Bytes}
 use Rattle.reader.specs.Reads.{joined, writes, at_end, not_yet, begun}

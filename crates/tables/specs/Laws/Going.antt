@@ -11,10 +11,10 @@ use Rattle.words.specs.Copies.{is_long}
 use Rattle.words.specs.Sets.{bits, none, has, insert}
 use Rattle.words.specs.Fields.{values}
 use Rattle.logic.specs.Laws.Bools.{and_left, and_right, and_ended, clash}
-use Rattle.words.specs.Laws.Sets.{has_insert, has_none, set_member, or_lacks}
+use Rattle.words.proofs.Laws.Sets.{has_insert, has_none, set_member, or_lacks}
 use Rattle.dictionary.specs.Dictionary.{is_reference, attribute_of}
 use Rattle.dictionary.specs.Quick.References.{no_reference, reference_of}
-use Rattle.dictionary.specs.Laws.References.{reference_among}
+use Rattle.dictionary.proofs.Laws.References.{reference_among}
 use Rattle.tables.specs.View.{type_at, is_set, value_at}
 use Rattle.tables.specs.declared.going.Going.{Going}
 use Rattle.tables.specs.Deletions.{goes_with, refers, swept_at, swept}

@@ -7,12 +7,12 @@ use Rattle.std.specs.Int.Bits.{bit_and, and_zero_r}
 use Rattle.words.specs.Sets.{bit_of, has}
 use Rattle.words.specs.Fields.{values, type_in, flagged, is_free}
 use Rattle.logic.specs.Laws.Bools.{and_left, and_ended}
-use Rattle.words.specs.Laws.Sets.{and_bit}
+use Rattle.words.proofs.Laws.Sets.{and_bit}
 use Rattle.dictionary.specs.Dictionary.{is_reference, attribute_of, the_table}
 use Rattle.dictionary.specs.Quick.References.{no_reference, reference_of}
 use Rattle.dictionary.specs.Quick.Shapes.{flag_of, shape_of, mark_in}
-use Rattle.dictionary.specs.Laws.References.{reference_other, reference_is, reference_among}
-use Rattle.dictionary.specs.Laws.Shapes.{mark_of_shape}
+use Rattle.dictionary.proofs.Laws.References.{reference_other, reference_is, reference_among}
+use Rattle.dictionary.proofs.Laws.Shapes.{mark_of_shape}
 use Rattle.tables.specs.View.{header_at, type_at, is_set, value_at}
 use Rattle.tables.specs.Deletions.{refers}
 use Rattle.tables.specs.Quick.Pointers.{pointer_in, second}

@@ -18,16 +18,16 @@ use Rattle.words.specs.Fields.{schema_in, type_in, model_in, flags_in, values, f
 use Rattle.logic.specs.Laws.Bools.{and_left, and_ended, or_right, fails}
 use Rattle.logic.specs.Laws.Decides.{Decides, both, less, equal, at_most, denied, every, restated, same_test, itself, implied}
 use Rattle.logic.specs.Laws.Search.{all_at, all_from, all_same, all_both, all_one}
-use Rattle.words.specs.Laws.Fields.{Header, flag_of_flags}
-use Rattle.words.specs.Laws.Entries.{entry_test}
+use Rattle.words.proofs.Laws.Fields.{Header, flag_of_flags}
+use Rattle.words.proofs.Laws.Entries.{entry_test}
 use Rattle.dictionary.specs.declared.answers.Attribute.{Attribute}
 use Rattle.dictionary.specs.declared.answers.Attribute.TheVariants.{Lacking, Whole, Reference}
 use Rattle.dictionary.specs.Dictionary.{types, is_type, schema_of, lacks, is_reference, attributes_of, attribute_of, the_table}
-use Rattle.dictionary.specs.Laws.Attributes.{attribute_lacks, attributes_few}
+use Rattle.dictionary.proofs.Laws.Attributes.{attribute_lacks, attributes_few}
 use Rattle.dictionary.specs.Quick.References.{reference_of}
 use Rattle.dictionary.specs.Quick.Shapes.{shape_of, mark_in}
-use Rattle.dictionary.specs.Laws.References.{reference_other, reference_is}
-use Rattle.dictionary.specs.Laws.Shapes.{target_of_shape, shape_even, strays_of_shape}
+use Rattle.dictionary.proofs.Laws.References.{reference_other, reference_is}
+use Rattle.dictionary.proofs.Laws.Shapes.{target_of_shape, shape_even, strays_of_shape}
 use Rattle.dictionary.specs.Subtype.{subtype}
 use Rattle.tables.specs.declared.live.Live.{Live}
 use Rattle.tables.specs.View.{is_live, label_at, header_at, type_at, value_at}

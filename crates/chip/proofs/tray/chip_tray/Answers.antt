@@ -5,7 +5,7 @@ use borrow.Author.Tests.{leb-true}
 use Rattle.session.specs.Runs.{chip_of}
 use Rattle.chip.specs.declared.tray.Order.{Order}
 use Rattle.chip.specs.Quick.Turns.{Standing, Turned, turned, begun_with, turn_of, no_order, stepped, standing, taken_of}
-use Rattle.chip.specs.Laws.Tray.{Stands, stands_begun, stands_next, tray_left, closed}
+use Rattle.chip.proofs.Laws.Tray.{Stands, stands_begun, stands_next, tray_left, closed}
 use Rattle.chip.proofs.tray.chip_tray.Invariants.{now_standing}
 use Rattle.chip.proofs.tray.chip_tray.Goals as goal
 

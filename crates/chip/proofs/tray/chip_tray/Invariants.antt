@@ -4,7 +4,7 @@ use Rattle.chip.specs.declared.tray.Result.{Result}
 use Rattle.chip.specs.declared.tray.Turn.{Turn}
 use Rattle.session.specs.Runs.{chip_of}
 use Rattle.chip.specs.Quick.Turns.{Standing, turned, begun_with, standing, taken_of}
-use Rattle.chip.specs.Laws.Tray.{Stands}
+use Rattle.chip.proofs.Laws.Tray.{Stands}
 use Rattle.chip.proofs.tray.chip_tray.Given as goal
 
 -- the answers, what goes on to the next order, and the tables

@@ -1,7 +1,7 @@
 -- `attribute` meets its contract: at 0, 1 and 2 by the three functions, and no type has more attributes than three.
 use mathlib.Core.Path.{sym}
 use native.Mathlib.Omega.{arith}
-use Rattle.dictionary.specs.Laws.Attributes.{attributes_few, attribute_lacking}
+use Rattle.dictionary.proofs.Laws.Attributes.{attributes_few, attribute_lacking}
 use Rattle.dictionary.proofs.kinds.attribute.Goals as goal
 
 pub returns-in_default : goal.returns-in_default

@@ -5,7 +5,7 @@ use Prim.Native.Nat.{ℕ}
 use Rattle.dictionary.specs.declared.answers.Attribute.{Attribute}
 use Rattle.logic.specs.Search.{all_b}
 use Rattle.dictionary.specs.Dictionary.{attribute_of, lacks, the_table}
-use Rattle.dictionary.specs.Laws.Attributes.{lacking, no_type_attribute}
+use Rattle.dictionary.proofs.Laws.Attributes.{lacking, no_type_attribute}
 use Rattle.dictionary.proofs.Arms.{among, default}
 use Rattle.dictionary.proofs.kinds.second.Goals as goal
 

@@ -1,7 +1,7 @@
 -- Each part stays in its own bits, a flag among them (`flag_small`), so nothing wraps.
 use Prim.Native.Nat.{◌≤◌}
 use native.Mathlib.Omega.{arith}
-use Rattle.dictionary.specs.Laws.Shapes.{flag_small}
+use Rattle.dictionary.proofs.Laws.Shapes.{flag_small}
 use Rattle.dictionary.proofs.shapes.packed.Goals as goal
 
 first : (c : goal.After-flag) → c.flag.result ≤ 8

@@ -8,7 +8,7 @@ use Rattle.logic.specs.Search.{all_b}
 use Rattle.dictionary.specs.Dictionary.{the_table}
 use Rattle.dictionary.specs.Quick.References.{no_reference, reference_of, mask_below, targets_of}
 use Rattle.dictionary.specs.Quick.Shapes.{packed_of, shape_of}
-use Rattle.dictionary.specs.Laws.Shapes.{no_type_shape}
+use Rattle.dictionary.proofs.Laws.Shapes.{no_type_shape}
 use Rattle.dictionary.specs.Subtype.{subtype}
 use Rattle.dictionary.proofs.Arms.{among, default}
 use Rattle.dictionary.proofs.shapes.shape.Goals as goal

@@ -4,7 +4,7 @@ use Prim.Native.Nat.{◌-◌}
 use native.Mathlib.Omega.{arith}
 use borrow.Author.Tests.{le-ltb}
 use Rattle.dictionary.specs.Dictionary.{types, is_type, the_table}
-use Rattle.dictionary.specs.Laws.Tags.{no_type_names}
+use Rattle.dictionary.proofs.Laws.Tags.{no_type_names}
 use Rattle.dictionary.proofs.Arms.{past}
 use Rattle.dictionary.proofs.tags.named.Goals as goal
 

@@ -1,0 +1,9 @@
+pub mod Refusal
+pub mod Fresh
+pub mod Stays
+pub mod Core
+pub mod Reached
+pub mod Records
+pub mod Cases
+pub mod Wrong
+pub mod Sizes

@@ -1,0 +1,2 @@
+pub mod AsStep
+pub mod Demand3
