@@ -9,7 +9,7 @@ export DESTDIR
 help:
 	@echo 'make demo             the ten records of the manual, and the lines that the program prints for them'
 	@echo 'make edges            the cases at the edges, and what each gives'
-	@echo 'make test             layout of the files, everything proved from nothing, with the must-fail edits, then the tests outside the prover'
+	@echo 'make test             the gate: layout of the files, everything proved, the must-fail edits, the programs, then the tests outside the prover'
 	@echo 'make outside          the tests outside the prover alone (CALLS=n TRAYS=n SEED=n VECTORS='"'"'folder ..'"'"')'
 	@echo 'make mutants          shows that the outside tests see each of the bugs planted in their model'
 	@echo 'make check CRATE=x    one crate and what it stands on'
@@ -25,19 +25,15 @@ kit:
 	@command -v rt >/dev/null || { echo 'the Rattle kit is not here: no command rt' >&2; exit 1; }
 
 demo: kit
-	@tools/prove check reader
+	@tools/prove reader
 	@tools/reader <crates/reader/stdin
 
 edges: kit
-	@tools/prove check edges
-	@tools/run target/bin/edges
+	@tools/prove edges
+	@crates/edges/out/edges
 
-# The outside tests come after the proofs, since they run what was proved; the verdict of the proofs is the last line.
 test: kit
-	rt fmt --check
-	tools/ci
-	tests/run
-	@cat target/verdict
+	@.ci/run
 
 outside: kit
 	tests/run
@@ -47,8 +43,7 @@ mutants: kit
 
 check: kit
 	@[ -n "$(CRATE)" ] || { echo 'which crate? make check CRATE=words (crates.txt lists them)' >&2; exit 2; }
-	@grep -q '^$(CRATE):' crates.txt || { echo 'no crate "$(CRATE)" in crates.txt' >&2; exit 2; }
-	@tools/prove check $(CRATE)
+	@tools/prove $(CRATE)
 
 lib: kit
 	@tools/lib $(TARGET)
@@ -67,8 +62,8 @@ count: kit
 
 vectors: kit
 	@[ -n "$(DIR)" ] || { echo 'which folder? make vectors DIR=path' >&2; exit 2; }
-	@tools/prove check reader
+	@tools/prove reader
 	tools/vectors $(DIR)
 
 fmt: kit
-	rt fmt
+	@for crate in crates/*; do (cd $$crate && rt fmt) || exit 1; done

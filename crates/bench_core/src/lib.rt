@@ -1,5 +1,6 @@
 // The machine without the test of soundness, for the bench alone: what a call costs once the state is known to be sound. The
-// lines of `core` stand here themselves: a function for C that hands on to it copies the answer once more.
+// lines of `core` stand here themselves: a function for C that hands on to it copies the answer once more. `bench_core_c`
+// hands this on to C.
 #![tactic(auto)]
 
 ghost use Rattle.std.specs.Prelude.{◌≡◌};
@@ -9,8 +10,7 @@ use session::answers::{carried, finished, log_stays};
 use session::call::serve;
 use state::state::{Answer, Session};
 
-#[unsafe(no_mangle)]
-pub extern "C" fn chip_core(
+pub fn chip_core(
     op: u32,
     a: u32,
     b: u32,

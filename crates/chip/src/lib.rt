@@ -1,5 +1,4 @@
-// The face for C and Rust, a call here and a tray beside it: include/chip.h declares both. Numbers pass as themselves, the
-// session and the answer by value, a table or a row as a pointer and a length.
+// The machine as it is offered, a call here and a tray beside it. `chip_c` hands both on to C and Rust under the same names.
 #![tactic(auto)]
 
 ghost use Rattle.std.specs.Prelude.{◌≡◌};
@@ -14,8 +13,7 @@ use state::state::{Answer, Session};
 
 // With the state lent, as in a tray: so what serves an operation is one function that both call, and no session is handed
 // over to it.
-#[unsafe(no_mangle)]
-pub extern "C" fn chip_call(
+pub fn chip_call(
     op: u32,
     a: u32,
     b: u32,

@@ -102,8 +102,7 @@ fn next_turn(o: Order, t: Turn, working: &mut [u64], kept: &mut [u64]) -> Turn
 }
 
 // It only moves structs: what branches stands in the functions that it calls.
-#[unsafe(no_mangle)]
-pub extern "C" fn chip_tray(
+pub fn chip_tray(
     orders: &[Order],
     answers: &mut [Result],
     x: Session,
