@@ -1,5 +1,5 @@
 -- The cases hold: one theorem over their list, each by `core`, which computes.
-use Rattle.std.specs.Prelude.{◌≡◌, refl, true, List, reverse, ℕ, ◌-◌, take}
+use Rattle.std.specs.Prelude.{◌≡◌, refl, true, List, reverse, ℕ, take}
 use Rattle.std.proofs.Common.{sym, ap, ◌∙◌, lit<}
 use Rattle.logic.specs.Search.{first_from, all_b, any_b}
 use Rattle.words.specs.Entries.{filled, next_free}
@@ -19,7 +19,7 @@ use Rattle.promises.proofs.Reached.{core_alike, same_after}
 use Rattle.promises.specs.Beyond.{alike_after, fresh_alike}
 use Rattle.promises.specs.Records.{◌gives◌, asked, ten_records}
 use Rattle.promises.proofs.Records.{computed}
-use Rattle.promises.specs.Cases.{◌is◌, header_after, subtype_test, Holds, AllHold, cases}
+use Rattle.promises.specs.Cases.{header_after, subtype_test, Holds, AllHold, cases}
 
 -- ---- each by `core`, which computes
 

@@ -3,7 +3,7 @@
 use Rattle.std.specs.Prelude.{◌≡◌, refl, false, List, ℕ, eqb}
 use Rattle.std.proofs.Common.{sym, arith, ne_eqb}
 use Rattle.state.specs.declared.state.Session.{Session}
-use Rattle.state.specs.Refusals.{SY_ERR, done, ◌on◌, number_in}
+use Rattle.state.specs.Refusals.{SY_ERR, done, number_in}
 use Rattle.session.specs.Step.{Outcome, step}
 use Rattle.session.specs.Laws.Range.{Refusing}
 use Rattle.state.specs.Laws.Events.{noted_as_told}

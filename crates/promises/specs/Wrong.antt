@@ -8,7 +8,6 @@ use Rattle.state.specs.Refusals.{done}
 use Rattle.state.specs.States.{is_open}
 use Rattle.session.specs.Runs.{Call, call, Chip, Machine, outcome_by, outcome_of}
 use Rattle.promises.specs.Possible.{possible}
-use Rattle.promises.specs.Records.{◌gives◌}
 
 -- what stands in the place of `call` meets its contract
 abbrev pub Meets : Machine → Type 0

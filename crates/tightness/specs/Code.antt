@@ -5,7 +5,7 @@ use Rattle.std.specs.Prelude.{◌≡◌, List, [], ◌∷◌, ◌++◌, ℕ}
 use Rattle.state.specs.declared.state.Session.{Session}
 use Rattle.state.specs.Refusals.{done}
 use Rattle.session.specs.Step.{Outcome, outcome}
-use Rattle.session.specs.Runs.{Call, Answered, Chip, left, answered_by, after}
+use Rattle.session.specs.Runs.{Call, Answered, Chip, left, answered_by}
 use Rattle.chip.specs.declared.tray.Order.{Order}
 use Rattle.chip.specs.declared.tray.Result.{Result}
 use Rattle.chip.specs.Tray.{Trayed, asked}

@@ -1,7 +1,6 @@
 -- As `core` is proved: what is served is the definition's effect, and the answer is that of its log.
 use mathlib.Core.Path.{sym, ◌∙◌}
 use Rattle.session.specs.Laws.Served.{served_core, served_carried}
-use borrow.Author.Rules.{rules}
 use Rattle.bench_core.proofs.chip_core.Goals as goal
 
 pub returns-then-log_stays : goal.returns-then-log_stays

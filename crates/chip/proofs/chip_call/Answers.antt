@@ -1,9 +1,7 @@
 -- An unsound state is answered as it came. On a sound one the operation is served with the state lent, and the answer is that
 use mathlib.Core.Path.{sym, ◌∙◌}
-use borrow.Author.Tests.{not-true, not-false}
 use Rattle.session.specs.Step.{step}
 use Rattle.session.specs.Laws.Served.{lent_core, lent_carried}
-use borrow.Author.Rules.{rules}
 use Rattle.chip.proofs.chip_call.Goals as goal
 
 -- of a log that stays, or of one that may change.

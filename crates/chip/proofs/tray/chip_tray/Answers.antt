@@ -1,10 +1,9 @@
-use Rattle.std.proofs.Common.{◌≡◌, ℕ, suc, ◌<◌, ◌≤◌, ◌+◌, ◌^◌, List, length, leb, get_or, refl, sym, ap, ◌∙◌, arith, add-one, length-set}
+use Rattle.std.proofs.Common.{◌≡◌, ℕ, suc, ◌<◌, ◌≤◌, ◌^◌, length, leb, get_or, refl, sym, ap, ◌∙◌, arith, add-one, length-set}
 use mathlib.Core.Path.{subst}
 use Rattle.std.proofs.Math.Bool.{Bool, true, false, cond}
 use borrow.Author.Tests.{leb-true}
 use Rattle.session.specs.Runs.{chip_of}
-use Rattle.chip.specs.declared.tray.Order.{Order}
-use Rattle.chip.specs.Quick.Turns.{Standing, Turned, turned, begun_with, turn_of, no_order, stepped, standing, taken_of}
+use Rattle.chip.specs.Quick.Turns.{Standing, Turned, turned, turn_of, no_order, stepped, taken_of}
 use Rattle.chip.proofs.Laws.Tray.{Stands, stands_begun, stands_next, tray_left, closed}
 use Rattle.chip.proofs.tray.chip_tray.Invariants.{now_standing}
 use Rattle.chip.proofs.tray.chip_tray.Goals as goal
@@ -33,8 +32,7 @@ loop-i-preserved c =
     let small : o.c < 2 ^ 32 = c.next_turn-t.ensures.small in
     let few = within (length orders) (length row) in
     let turn : turned c.next_turn-t.result c.next_turn-t.new.working c.next_turn-t.new.kept ≡ turn_of o c.loop-i.t c.loop-i.working c.loop-i.kept = c.next_turn-t.ensures.turn in
-    let next = ap (λ (y : Turned). stepped i y z) turn in
-    (
+    let next = ap (λ (y : Turned). stepped i y z) turn in (
       omega arith,
       c.loop-i.invariant.1,
       length-set c.loop-i.answers i c.next_turn-t.result.result ∙ c.loop-i.invariant.2,

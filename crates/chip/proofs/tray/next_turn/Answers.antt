@@ -4,7 +4,6 @@ use mathlib.Core.Bool.{true}
 use borrow.Author.Tests.{not-true, not-false}
 use Rattle.session.specs.Laws.Served.{lent_core, lent_carried}
 use Rattle.chip.specs.Quick.Turns.{turned_by, turn_of}
-use borrow.Author.Rules.{rules}
 use Rattle.chip.proofs.tray.next_turn.Goals as goal
 
 pub returns-then-not-t-clause-turn : goal.returns-then-not-t-clause-turn
