@@ -11,7 +11,7 @@ use borrow.Author.Tests.{ne_eqb}
 use Rattle.logic.specs.Search.{all_b}
 use Rattle.logic.specs.Laws.Bools.{decided}
 use Rattle.dictionary.specs.Dictionary.{types, is_type}
-use Rattle.dictionary.proofs.Laws.Types.{of_type}
+use Rattle.dictionary.specs.Laws.Types.{of_type}
 
 -- what the default knows, of the keys from the last arm up to the first
 abbrev pub NoneOf : List ℕ → ℕ → Type 0

@@ -1,5 +1,4 @@
 -- What callers cite of the definitions.
-pub mod Types
 pub mod Attributes
 pub mod Subtypes
 pub mod References

@@ -1,3 +1,4 @@
 pub mod Dictionary
 pub mod Subtype
 pub mod Quick
+pub mod Laws

@@ -9,9 +9,9 @@ use Rattle.words.specs.declared.layout.Kind.TheVariants.{Model, SchemaInstance, 
 use Rattle.words.specs.Layout.{count_of}
 use Rattle.words.specs.Fields.{values, is_free, flagged, with_flag, without_flag}
 use Rattle.words.specs.Entries.{word_of}
-use Rattle.words.proofs.Laws.Layout.{kinds_apart}
+use Rattle.words.specs.Laws.Layout.{kinds_apart}
 use Rattle.logic.specs.Laws.Bools.{and_left, and_ended, clash}
-use Rattle.words.proofs.Laws.Fields.{Alike, header_is_live, alike_with, alike_without, flagged_with, flagged_without}
+use Rattle.words.specs.Laws.Fields.{Alike, header_is_live, alike_with, alike_without, flagged_with, flagged_without}
 use Rattle.dictionary.specs.declared.answers.Attribute.{Attribute}
 use Rattle.dictionary.specs.declared.answers.Attribute.TheVariants.{Lacking, Whole, Reference}
 use Rattle.dictionary.specs.Dictionary.{is_reference, attribute_of}

@@ -8,9 +8,9 @@ use Rattle.logic.specs.Laws.Bools.{and_right}
 use Rattle.words.specs.declared.layout.Kind.{Kind}
 use Rattle.words.specs.Layout.{words, index_of}
 use Rattle.words.specs.Entries.{cursor_in}
-use Rattle.words.proofs.Laws.Layout.{same_kind, same_index}
-use Rattle.words.proofs.Laws.Entries.{made_cursor, made_cursor_other}
-use Rattle.words.proofs.Laws.Copies.{Agreeing, agree_cursors}
+use Rattle.words.specs.Laws.Layout.{same_kind, same_index}
+use Rattle.words.specs.Laws.Entries.{made_cursor, made_cursor_other}
+use Rattle.words.specs.Laws.Copies.{Agreeing, agree_cursors}
 use Rattle.tables.specs.declared.changes.Change.{Change}
 use Rattle.tables.specs.declared.changes.Change.TheVariants.{Made, Gone, Joined, Left, Put, Unset}
 use Rattle.tables.specs.Changes.{apply}

@@ -11,10 +11,10 @@ use Rattle.words.specs.Layout.{count_of, index_of}
 use Rattle.words.specs.Sets.{none, has}
 use Rattle.words.specs.Fields.{type_in, values, is_free, flagged}
 use Rattle.words.specs.Entries.{word_of}
-use Rattle.words.proofs.Laws.Layout.{kinds_apart}
+use Rattle.words.specs.Laws.Layout.{kinds_apart}
 use Rattle.logic.specs.Laws.Bools.{and_left, and_right, and_both, and_ended, or_right, clash}
-use Rattle.words.proofs.Laws.Sets.{has_none}
-use Rattle.words.proofs.Laws.Fields.{header_is_live}
+use Rattle.words.specs.Laws.Sets.{has_none}
+use Rattle.words.specs.Laws.Fields.{header_is_live}
 use Rattle.dictionary.specs.Dictionary.{is_reference, attribute_of}
 use Rattle.tables.specs.View.{is_live, header_at, type_at, value_at, is_set}
 use Rattle.tables.specs.declared.changes.Change.{Change}

@@ -9,9 +9,9 @@ use Rattle.words.specs.Sets.{bits, insert, remove}
 use Rattle.words.specs.Fields.{is_free}
 use Rattle.words.specs.Entries.{word_of, without_entry}
 use Rattle.logic.specs.Laws.Bools.{and_ended}
-use Rattle.words.proofs.Laws.Sets.{has_none, has_insert, has_remove}
-use Rattle.words.proofs.Laws.Layout.{kinds_apart}
-use Rattle.words.proofs.Laws.Entries.{word_same, word_other, entry_first, entry_zeros, entry_other}
+use Rattle.words.specs.Laws.Sets.{has_none, has_insert, has_remove}
+use Rattle.words.specs.Laws.Layout.{kinds_apart}
+use Rattle.words.specs.Laws.Entries.{word_same, word_other, entry_first, entry_zeros, entry_other}
 use Rattle.tables.specs.View.{set_at}
 use Rattle.tables.specs.declared.changes.Change.TheVariants.{Gone, Joined, Left}
 use Rattle.tables.specs.Edits.{with_set}

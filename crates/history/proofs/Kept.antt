@@ -12,8 +12,8 @@ use Rattle.words.specs.declared.layout.Kind.TheVariants.{SchemaInstance, Instanc
 use Rattle.words.specs.Sets.{none, has}
 use Rattle.words.specs.Fields.{is_free, flagged}
 use Rattle.words.specs.Entries.{word_of}
-use Rattle.words.proofs.Laws.Sets.{has_none}
-use Rattle.words.proofs.Laws.Copies.{Agreeing, agree_entries}
+use Rattle.words.specs.Laws.Sets.{has_none}
+use Rattle.words.specs.Laws.Copies.{Agreeing, agree_entries}
 use Rattle.state.specs.declared.state.State.{State}
 use Rattle.tables.specs.declared.changes.Change.{Change}
 use Rattle.tables.specs.Changes.{apply}

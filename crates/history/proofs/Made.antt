@@ -6,9 +6,9 @@ use Rattle.words.specs.declared.layout.Kind.TheVariants.{Model, SchemaInstance, 
 use Rattle.words.specs.Layout.{count_of}
 use Rattle.words.specs.Fields.{is_free, flagged}
 use Rattle.words.specs.Entries.{word_of, free_at, with_entry}
-use Rattle.words.proofs.Laws.Layout.{kinds_apart, same_kind}
-use Rattle.words.proofs.Laws.Sets.{has_none}
-use Rattle.words.proofs.Laws.Entries.{made_first, made_zeros, made_other}
+use Rattle.words.specs.Laws.Layout.{kinds_apart, same_kind}
+use Rattle.words.specs.Laws.Sets.{has_none}
+use Rattle.words.specs.Laws.Entries.{made_first, made_zeros, made_other}
 use Rattle.tables.specs.declared.changes.Change.TheVariants.{Made}
 use Rattle.tables.specs.Changes.{apply}
 use Rattle.promises.specs.Keeps.Facts.{SoundTable}

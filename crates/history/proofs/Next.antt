@@ -9,8 +9,9 @@ use Rattle.words.specs.declared.layout.Kind.{Kind}
 use Rattle.words.specs.declared.layout.Kind.TheVariants.{Model, SchemaInstance, Instance}
 use Rattle.words.specs.Layout.{count_of}
 use Rattle.words.specs.Entries.{word_of, cursor_in, one_past, free_at, next_free}
-use Rattle.words.proofs.Laws.Layout.{count_positive}
-use Rattle.words.proofs.Laws.Entries.{one_past_below, next_is_free, next_ahead, next_round}
+use Rattle.words.specs.Laws.Layout.{count_positive}
+use Rattle.words.specs.Laws.Entries.{one_past_below}
+use Rattle.words.proofs.Found.{next_is_free, next_ahead, next_round}
 use Rattle.session.specs.Runs.{Answered}
 use Rattle.history.specs.Remains.{is}
 use Rattle.history.specs.Demand3.{creation_of, tried_first, steps_to, ComesNext}

@@ -11,9 +11,9 @@ use Rattle.words.specs.Layout.{words, count_of}
 use Rattle.words.specs.Sets.{has, remove}
 use Rattle.words.specs.Fields.{model_in, is_free}
 use Rattle.words.specs.Entries.{word_of, without_entry}
-use Rattle.words.proofs.Laws.Sets.{has_none, has_remove}
-use Rattle.words.proofs.Laws.Layout.{kinds_apart}
-use Rattle.words.proofs.Laws.Entries.{length_word, word_same, word_other, entry_first, entry_other}
+use Rattle.words.specs.Laws.Sets.{has_none, has_remove}
+use Rattle.words.specs.Laws.Layout.{kinds_apart}
+use Rattle.words.specs.Laws.Entries.{length_word, word_same, word_other, entry_first, entry_other}
 use Rattle.tables.specs.View.{is_live, set_at, header_at, model_at, value_at}
 use Rattle.tables.specs.declared.changes.Change.TheVariants.{Gone}
 use Rattle.tables.specs.Deletions.{goes_with, swept, ungrouped}

@@ -9,7 +9,7 @@ use Rattle.words.specs.declared.layout.Kind.{Kind}
 use Rattle.words.specs.declared.layout.Kind.TheVariants.{Model, SchemaInstance, Instance}
 use Rattle.words.specs.Layout.{count_of}
 use Rattle.words.specs.Entries.{word_of, free_at, next_free}
-use Rattle.words.proofs.Laws.Entries.{next_is_free, next_found, next_nowhere}
+use Rattle.words.proofs.Found.{next_is_free, next_found, next_nowhere}
 use Rattle.checks.specs.declared.operations.Operation.TheVariants as operation
 use Rattle.state.specs.declared.state.State.{State}
 use Rattle.state.specs.declared.state.Session.{Session}

@@ -11,10 +11,10 @@ use Rattle.words.specs.declared.layout.Kind.TheVariants.{Model, SchemaInstance, 
 use Rattle.words.specs.Layout.{count_of}
 use Rattle.words.specs.Fields.{label_of, header_of, values, is_free, flagged}
 use Rattle.words.specs.Entries.{word_of, free_at, next_free}
-use Rattle.words.proofs.Laws.Fields.{name_of_label, repository_of_label, schema_of_label, label_is_live, type_of_header, model_of_header, no_flag}
-use Rattle.words.proofs.Laws.Layout.{kinds_apart}
-use Rattle.words.proofs.Laws.Entries.{next_is_free}
-use Rattle.words.proofs.Laws.Copies.{Agreeing}
+use Rattle.words.specs.Laws.Fields.{name_of_label, repository_of_label, schema_of_label, label_is_live, type_of_header, model_of_header, no_flag}
+use Rattle.words.specs.Laws.Layout.{kinds_apart}
+use Rattle.words.proofs.Found.{next_is_free}
+use Rattle.words.specs.Laws.Copies.{Agreeing}
 use Rattle.dictionary.specs.declared.answers.Attribute.TheVariants.{Lacking}
 use Rattle.dictionary.specs.Dictionary.{is_type, attribute_of, lacks, the_table}
 use Rattle.tables.specs.View.{label_at, header_at, type_at, model_at}

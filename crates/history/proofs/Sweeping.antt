@@ -7,7 +7,7 @@ use Rattle.words.specs.declared.layout.Kind.TheVariants.{Instance}
 use Rattle.words.specs.Layout.{words, count_of}
 use Rattle.words.specs.Fields.{values, flagged, without_flag}
 use Rattle.words.specs.Entries.{word_of, without_entry}
-use Rattle.words.proofs.Laws.Fields.{flagged_without}
+use Rattle.words.specs.Laws.Fields.{flagged_without}
 use Rattle.tables.specs.View.{header_at}
 use Rattle.tables.specs.Edits.{without_value}
 use Rattle.tables.specs.Deletions.{refers, detached, swept}

@@ -8,7 +8,7 @@ use Rattle.words.specs.declared.layout.Kind.TheVariants.{Model, SchemaInstance, 
 use Rattle.words.specs.Sets.{has}
 use Rattle.words.specs.Fields.{header_of, type_in, model_in, is_free, flagged}
 use Rattle.words.specs.Entries.{word_of, cursor_in}
-use Rattle.words.proofs.Laws.Fields.{type_of_header, model_of_header}
+use Rattle.words.specs.Laws.Fields.{type_of_header, model_of_header}
 use Rattle.tables.specs.declared.changes.Change.{Change}
 use Rattle.tables.specs.declared.changes.Change.TheVariants.{Made, Gone, Joined, Left, Put, Unset}
 use Rattle.logic.specs.Laws.Bools.{clash}

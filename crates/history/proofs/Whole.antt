@@ -13,10 +13,10 @@ use Rattle.words.specs.Sets.{bit_of, has}
 use Rattle.words.specs.Fields.{type_in, model_in, flags_in, values, flagged}
 use Rattle.words.specs.Entries.{word_of, free_at}
 use Rattle.words.specs.Copies.{agree}
-use Rattle.words.proofs.Laws.Sets.{bit_step}
-use Rattle.words.proofs.Laws.Fields.{Label, label_test, label_of_fields, Header, header_of_fields, flag_of_flags}
-use Rattle.words.proofs.Laws.Entries.{entry_test}
-use Rattle.words.proofs.Laws.Copies.{agree_test}
+use Rattle.words.specs.Laws.Sets.{bit_step}
+use Rattle.words.specs.Laws.Fields.{Label, label_test, label_of_fields, Header, header_of_fields, flag_of_flags}
+use Rattle.words.specs.Laws.Entries.{entry_test}
+use Rattle.words.specs.Laws.Copies.{agree_test}
 use Rattle.dictionary.specs.declared.answers.Attribute.{Attribute}
 use Rattle.dictionary.specs.declared.answers.Attribute.TheVariants.{Lacking, Whole, Reference}
 use Rattle.dictionary.specs.Dictionary.{attribute_of}

@@ -3,7 +3,7 @@ use Rattle.std.specs.Prelude.{◌≡◌, refl, true, List, reverse, ℕ, take}
 use Rattle.std.proofs.Common.{sym, ap, ◌∙◌, lit<}
 use Rattle.logic.specs.Search.{first_from, all_b, any_b}
 use Rattle.words.specs.Entries.{filled, next_free}
-use Rattle.words.proofs.Laws.Sets.{size_of_none, size_of_all}
+use Rattle.words.specs.Laws.Sets.{size_of_none, size_of_all}
 use Rattle.dictionary.specs.Dictionary.{the_table}
 use Rattle.dictionary.specs.Subtype.{subtype}
 use Rattle.tables.specs.View.{header_at}

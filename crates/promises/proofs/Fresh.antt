@@ -7,8 +7,8 @@ use Rattle.words.specs.declared.layout.Kind.{Kind}
 use Rattle.words.specs.declared.layout.Kind.TheVariants.{Model, SchemaInstance, Instance}
 use Rattle.words.specs.Layout.{words, place_of, cursor_of}
 use Rattle.words.specs.Entries.{word_of, cursor_in, in_entry, free_at, formed}
-use Rattle.words.proofs.Laws.Layout.{count_positive, cursor_in_use}
-use Rattle.words.proofs.Laws.Entries.{entry_in_use}
+use Rattle.words.specs.Laws.Layout.{count_positive, cursor_in_use}
+use Rattle.words.specs.Laws.Entries.{entry_in_use}
 use Rattle.session.specs.Sound.{sound}
 use Rattle.session.specs.Runs.{fresh_session, Empty, Fresh, fresh_table, fresh_chip}
 use Rattle.promises.specs.Keeps.Facts.{Distinct, SoundTable}

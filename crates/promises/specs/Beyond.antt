@@ -8,7 +8,7 @@ use Rattle.logic.specs.Laws.Bools.{decided, fails, clash}
 use Rattle.logic.specs.Laws.Decides.{same_test, restated, at_most}
 use Rattle.words.specs.Layout.{words}
 use Rattle.words.specs.Copies.{is_long, agree, copied}
-use Rattle.words.proofs.Laws.Copies.{Agreeing, agree_test, agree_entries, agree_cursors, length_copied, copied_alike, copied_beyond}
+use Rattle.words.specs.Laws.Copies.{Agreeing, agree_test, agree_entries, agree_cursors, length_copied, copied_alike, copied_beyond}
 use Rattle.tables.specs.Sound.{sound_tables}
 use Rattle.tables.specs.Laws.Sound.{sound_alike}
 use Rattle.tables.specs.Laws.Changes.{Kept, change_keeps}

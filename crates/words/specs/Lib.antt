@@ -4,3 +4,4 @@ pub mod Fields
 pub mod Entries
 pub mod Copies
 pub mod Quick
+pub mod Laws

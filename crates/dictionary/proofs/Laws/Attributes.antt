@@ -11,7 +11,7 @@ use Rattle.logic.specs.Search.{all_b, all_in}
 use Rattle.logic.specs.Laws.Search.{within}
 use Rattle.logic.specs.Laws.Bools.{decided}
 use Rattle.dictionary.specs.Dictionary.{lacks, types, is_type, parent_of, schema_of, own_of, above, attributes_of, attribute_of, the_table}
-use Rattle.dictionary.proofs.Laws.Types.{no_type_parent, no_type_own, of_type, climb_step}
+use Rattle.dictionary.specs.Laws.Types.{no_type_parent, no_type_own, of_type, climb_step}
 
 -- what is inherited stands first
 pub attributes_step : (t : ℕ) → attributes_of t ≡ above [] attributes_of (parent_of t) ++ own_of t

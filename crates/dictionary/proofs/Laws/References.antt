@@ -8,7 +8,7 @@ use Rattle.logic.specs.Laws.Search.{all_at}
 use Rattle.logic.specs.Laws.Bools.{decided}
 use Rattle.logic.specs.Laws.Decides.{either, equal}
 use Rattle.dictionary.specs.Dictionary.{is_type, is_reference, attribute_of, the_table}
-use Rattle.dictionary.proofs.Laws.Types.{of_type}
+use Rattle.dictionary.specs.Laws.Types.{of_type}
 use Rattle.dictionary.proofs.Laws.Attributes.{attributes_few, attribute_lacking, no_type_attribute}
 use Rattle.dictionary.specs.Quick.References.{no_reference, reference_of, mask_below, targets_of}
 

@@ -13,7 +13,7 @@ use Rattle.dictionary.specs.Dictionary.{types, is_type, is_reference, attributes
 use Rattle.dictionary.specs.Subtype.{subtype}
 use Rattle.dictionary.specs.Quick.References.{no_reference, reference_of, mask_below, may_name, targets_of}
 use Rattle.dictionary.specs.Quick.Shapes.{flag_of, packed_of, shape_of, attributes_in, mark_in}
-use Rattle.dictionary.proofs.Laws.Types.{alike, told, of_pair}
+use Rattle.dictionary.specs.Laws.Types.{alike, told, of_pair}
 use Rattle.dictionary.proofs.Laws.Attributes.{no_type_attributes, no_type_attribute, attributes_few}
 use Rattle.dictionary.proofs.Laws.References.{no_type_reference, no_type_targets}
 

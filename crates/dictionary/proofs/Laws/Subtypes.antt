@@ -10,7 +10,7 @@ use Rattle.dictionary.specs.declared.answers.Attribute.TheVariants.{Lacking}
 use Rattle.logic.specs.Laws.Bools.{fails}
 use Rattle.dictionary.specs.Dictionary.{is_type, parent_of, schema_of, above, climbing, climb, attributes_of, attribute_of}
 use Rattle.dictionary.specs.Subtype.{same_or, subtype, Subtype, same, by_parent}
-use Rattle.dictionary.proofs.Laws.Types.{no_type_parent, climb_step, parent_lower, child_type, parent_type, parent_schema}
+use Rattle.dictionary.specs.Laws.Types.{no_type_parent, climb_step, parent_lower, child_type, parent_type, parent_schema}
 use Rattle.dictionary.proofs.Laws.Attributes.{attribute_there, attribute_count, attribute_inherited}
 
 pub subtype_step : (a b : ℕ) → subtype a b ≡ (eqb a b || above false (λ p. subtype p b) (parent_of a))

@@ -14,7 +14,7 @@ use Rattle.dictionary.specs.Subtype.{subtype}
 use Rattle.dictionary.specs.Quick.References.{reference_of, mask_below, may_name, targets_of}
 use Rattle.dictionary.specs.Quick.Shapes.{flag_of, shape_of, mark_in}
 use Rattle.dictionary.specs.Quick.Tags.{bars_of, names_of}
-use Rattle.dictionary.proofs.Laws.Types.{of_pair}
+use Rattle.dictionary.specs.Laws.Types.{of_pair}
 use Rattle.dictionary.proofs.Laws.Attributes.{no_type_attribute, attributes_few}
 use Rattle.dictionary.proofs.Laws.Shapes.{no_type_shape, mark_of_shape, shape_even, strays_of_tag}
 

@@ -5,7 +5,7 @@ use Rattle.tables.specs.Laws.Sound.{live_below_lem}
 use Rattle.words.specs.declared.layout.Kind.TheVariants.{Model}
 use Rattle.words.specs.Sets.{none, bits, has, insert, remove}
 use Rattle.logic.specs.Laws.Bools.{and_left, clash}
-use Rattle.words.proofs.Laws.Sets.{has_insert, has_remove}
+use Rattle.words.specs.Laws.Sets.{has_insert, has_remove}
 use Rattle.tables.specs.View.{is_live, label_at}
 use Rattle.state.specs.declared.state.Session.{Session}
 use Rattle.state.specs.States.{RO, RW, is_open, under, with_access, woken}

@@ -8,7 +8,7 @@ use Rattle.logic.specs.Search.{all_b}
 use Rattle.words.specs.Sets.{none, bits, has}
 use Rattle.words.specs.Copies.{copied}
 use Rattle.logic.specs.Laws.Bools.{and_left, clash}
-use Rattle.words.proofs.Laws.Sets.{has_none}
+use Rattle.words.specs.Laws.Sets.{has_none}
 use Rattle.tables.specs.View.{is_live, label_at}
 use Rattle.state.specs.declared.state.State.{State}
 use Rattle.state.specs.declared.state.Log.{Log}

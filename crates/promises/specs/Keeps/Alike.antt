@@ -10,9 +10,9 @@ use Rattle.logic.specs.Search.{all_b, any_b, first_from}
 use Rattle.words.specs.Fields.{values, is_free, without_flag, with_flag}
 use Rattle.words.specs.Sets.{bits, insert, remove}
 use Rattle.words.specs.Entries.{in_entry, word_of, with_word, cursor_in, one_past, first_then_zeros, filled, first_free, next_free}
-use Rattle.words.proofs.Laws.Layout.{cursor_in_use}
-use Rattle.words.proofs.Laws.Entries.{entry_in_use}
-use Rattle.words.proofs.Laws.Copies.{Agreeing, agree_entries}
+use Rattle.words.specs.Laws.Layout.{cursor_in_use}
+use Rattle.words.specs.Laws.Entries.{entry_in_use}
+use Rattle.words.specs.Laws.Copies.{Agreeing, agree_entries}
 use Rattle.dictionary.specs.declared.answers.Attribute.{Attribute}
 use Rattle.dictionary.specs.declared.answers.Attribute.TheVariants.{Lacking, Whole, Reference}
 use Rattle.tables.specs.View.{set_at, header_at, share_set}

@@ -8,12 +8,13 @@ use Rattle.words.specs.Layout.{count_of}
 use Rattle.words.specs.Sets.{remove}
 use Rattle.words.specs.Fields.{label_of, header_of, name_in, repository_in, schema_in, repositories, values, with_flag, without_flag}
 use Rattle.words.specs.Entries.{free_at, next_free, is_taken}
-use Rattle.words.proofs.Laws.Fields.{name_of_label, repository_of_label}
-use Rattle.words.proofs.Laws.Layout.{kinds_apart}
-use Rattle.words.proofs.Laws.Entries.{word_other, entry_other, made_other, next_is_free}
+use Rattle.words.specs.Laws.Fields.{name_of_label, repository_of_label}
+use Rattle.words.specs.Laws.Layout.{kinds_apart}
+use Rattle.words.specs.Laws.Entries.{word_other, entry_other, made_other}
+use Rattle.words.proofs.Found.{next_is_free}
 use Rattle.dictionary.specs.declared.answers.Attribute.TheVariants.{Lacking}
 use Rattle.dictionary.specs.Dictionary.{is_type, schema_of, attribute_of, lacks}
-use Rattle.dictionary.proofs.Laws.Types.{small_type}
+use Rattle.dictionary.specs.Laws.Types.{small_type}
 use Rattle.dictionary.proofs.Laws.Attributes.{attributes_few, attribute_count}
 use Rattle.tables.specs.View.{is_live, label_at, header_at, type_at}
 use Rattle.tables.specs.Sound.{may_join, sound_value}

@@ -2,7 +2,7 @@
 use Rattle.std.proofs.Common.{sym, ◌∙◌}
 use Rattle.std.specs.Prelude.{List, ℕ}
 use Rattle.words.specs.Copies.{copied}
-use Rattle.words.proofs.Laws.Copies.{Agreeing, copied_agrees}
+use Rattle.words.specs.Laws.Copies.{Agreeing, copied_agrees}
 use Rattle.tables.specs.Laws.Sound.{sound_alike}
 use Rattle.promises.specs.Keeps.Facts.{SoundTable, table_test}
 

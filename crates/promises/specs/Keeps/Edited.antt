@@ -6,8 +6,8 @@ use Rattle.words.specs.declared.layout.Kind.TheVariants.{Model, SchemaInstance, 
 use Rattle.words.specs.Layout.{count_of}
 use Rattle.words.specs.Sets.{has}
 use Rattle.words.specs.Entries.{word_of, free_at, formed, cursor_in, with_word, with_cursor, with_words}
-use Rattle.words.proofs.Laws.Layout.{kinds_apart, same_kind}
-use Rattle.words.proofs.Laws.Entries.{length_word, word_other, word_cursor, length_entry, entry_other, entry_cursor, length_cursor, cursor_entries, cursor_same, cursor_other}
+use Rattle.words.specs.Laws.Layout.{kinds_apart, same_kind}
+use Rattle.words.specs.Laws.Entries.{length_word, word_other, word_cursor, length_entry, entry_other, entry_cursor, length_cursor, cursor_entries, cursor_same, cursor_other}
 use Rattle.tables.specs.View.{is_live, label_at, set_at, model_at}
 use Rattle.promises.specs.Keeps.Facts.{SameName, Distinct, SoundGroup, SoundInstance, SoundTable}
 use Rattle.promises.specs.Keeps.Frame.{same_or_not, distinct_kept, distinct_edited, group_stays, Lasts, lasts_same, instance_stays}

@@ -8,8 +8,8 @@ use Rattle.words.specs.Sets.{none, bits, has}
 use Rattle.words.specs.Fields.{name_in, repository_in, values, is_free}
 use Rattle.words.specs.Entries.{cursor_in, free_at, formed}
 use Rattle.logic.specs.Laws.Decides.{Decides, both, equal, at_most, less, every, denied, restated, itself, choice, whenever, unless}
-use Rattle.words.proofs.Laws.Fields.{Label, label_test}
-use Rattle.words.proofs.Laws.Copies.{Agreeing, agree_test}
+use Rattle.words.specs.Laws.Fields.{Label, label_test}
+use Rattle.words.specs.Laws.Copies.{Agreeing, agree_test}
 use Rattle.dictionary.specs.Dictionary.{attribute_of}
 use Rattle.tables.specs.View.{label_at, set_at, header_at, type_at, is_set, value_at}
 use Rattle.tables.specs.Sound.{same_name, distinct, may_join, sound_group, sound_value, sound_instance, sound_cursor, sound_cursors, sound_table, sound_tables}

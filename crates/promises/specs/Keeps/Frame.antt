@@ -9,7 +9,7 @@ use Rattle.words.specs.Sets.{has}
 use Rattle.words.specs.Fields.{model_in}
 use Rattle.words.specs.Entries.{word_of, free_at}
 use Rattle.logic.specs.Laws.Bools.{and_left, and_right, and_both}
-use Rattle.words.proofs.Laws.Fields.{Alike}
+use Rattle.words.specs.Laws.Fields.{Alike}
 use Rattle.dictionary.specs.declared.answers.Attribute.{Attribute}
 use Rattle.dictionary.specs.declared.answers.Attribute.TheVariants.{Lacking, Whole, Reference}
 use Rattle.dictionary.specs.Dictionary.{attribute_of}

@@ -10,9 +10,9 @@ use Rattle.words.specs.Fields.{label_of, name_in, repository_in, repositories, i
 use Rattle.words.specs.Entries.{one_past, free_at, is_taken, with_words, with_entry, without_entry}
 use Rattle.logic.specs.Laws.Bools.{and_left, and_right, or_right, clash, fails}
 use Rattle.logic.specs.Laws.Search.{none_at}
-use Rattle.words.proofs.Laws.Sets.{has_insert, has_remove, has_none}
-use Rattle.words.proofs.Laws.Fields.{Label, label_test, label_is_live, repository_of_label, schema_of_label}
-use Rattle.words.proofs.Laws.Entries.{word_same, word_other, entry_first, entry_zeros, one_past_below}
+use Rattle.words.specs.Laws.Sets.{has_insert, has_remove, has_none}
+use Rattle.words.specs.Laws.Fields.{Label, label_test, label_is_live, repository_of_label, schema_of_label}
+use Rattle.words.specs.Laws.Entries.{word_same, word_other, entry_first, entry_zeros, one_past_below}
 use Rattle.tables.specs.View.{is_live, label_at, set_at, model_at}
 use Rattle.tables.specs.Sound.{may_join}
 use Rattle.tables.specs.Edits.{with_set}

@@ -8,10 +8,10 @@ use Rattle.words.specs.Layout.{count_of}
 use Rattle.words.specs.Sets.{none, has, remove}
 use Rattle.words.specs.Fields.{values}
 use Rattle.words.specs.Entries.{word_of, free_at}
-use Rattle.words.proofs.Laws.Sets.{has_none, has_remove}
-use Rattle.words.proofs.Laws.Fields.{header_is_live}
-use Rattle.words.proofs.Laws.Layout.{kinds_apart}
-use Rattle.words.proofs.Laws.Entries.{word_same, word_other, entry_other}
+use Rattle.words.specs.Laws.Sets.{has_none, has_remove}
+use Rattle.words.specs.Laws.Fields.{header_is_live}
+use Rattle.words.specs.Laws.Layout.{kinds_apart}
+use Rattle.words.specs.Laws.Entries.{word_same, word_other, entry_other}
 use Rattle.dictionary.specs.declared.answers.Attribute.{Attribute}
 use Rattle.dictionary.specs.declared.answers.Attribute.TheVariants.{Lacking, Whole, Reference}
 use Rattle.dictionary.specs.Dictionary.{is_reference, attribute_of}

@@ -6,7 +6,7 @@ use Rattle.words.specs.Sets.{none, has, insert, remove}
 use Rattle.words.specs.Fields.{repositories, repository_in}
 use Rattle.words.specs.Copies.{copied}
 use Rattle.logic.specs.Laws.Bools.{and_left, and_right, and_both, or_right}
-use Rattle.words.proofs.Laws.Sets.{has_insert}
+use Rattle.words.specs.Laws.Sets.{has_insert}
 use Rattle.tables.specs.View.{is_live, label_at}
 use Rattle.state.specs.declared.state.Session.{Session}
 use Rattle.state.specs.States.{NONE, RO, RW, ABORTED, is_open, under, with_recording, with_transaction, with_repositories, with_access, ended, opened_state}

@@ -8,8 +8,8 @@ use Rattle.words.specs.declared.layout.Kind.TheVariants.{Instance}
 use Rattle.words.specs.Layout.{words, stride_of, count_of}
 use Rattle.words.specs.Fields.{type_in, values, flagged, without_flag}
 use Rattle.words.specs.Entries.{word_of, cursor_in, without_entry}
-use Rattle.words.proofs.Laws.Fields.{Alike, alike_without, flagged_without}
-use Rattle.words.proofs.Laws.Entries.{entry_zeros}
+use Rattle.words.specs.Laws.Fields.{Alike, alike_without, flagged_without}
+use Rattle.words.specs.Laws.Entries.{entry_zeros}
 use Rattle.dictionary.specs.Dictionary.{is_reference, attribute_of}
 use Rattle.tables.specs.View.{header_at, value_at}
 use Rattle.tables.specs.Edits.{without_value}

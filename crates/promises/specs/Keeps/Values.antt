@@ -6,8 +6,8 @@ use Rattle.words.specs.declared.layout.Kind.TheVariants.{Model, Instance}
 use Rattle.words.specs.Layout.{count_of}
 use Rattle.words.specs.Fields.{schema_in, type_in, model_in, header_of, values, flagged, with_flag, without_flag}
 use Rattle.words.specs.Entries.{one_past, free_at, with_words, with_entry}
-use Rattle.words.proofs.Laws.Fields.{Header, header_is_live, type_of_header, model_of_header, no_flag, Alike, alike_with, alike_without, flagged_with, flagged_without}
-use Rattle.words.proofs.Laws.Entries.{entry_first, entry_zeros, one_past_below}
+use Rattle.words.specs.Laws.Fields.{Header, header_is_live, type_of_header, model_of_header, no_flag, Alike, alike_with, alike_without, flagged_with, flagged_without}
+use Rattle.words.specs.Laws.Entries.{entry_first, entry_zeros, one_past_below}
 use Rattle.dictionary.specs.declared.answers.Attribute.{Attribute}
 use Rattle.dictionary.specs.declared.answers.Attribute.TheVariants.{Lacking, Whole, Reference}
 use Rattle.dictionary.specs.Dictionary.{is_type, schema_of, attribute_of}

@@ -5,7 +5,7 @@ use Rattle.words.specs.declared.layout.Kind.TheVariants.{Instance}
 use Rattle.words.specs.Layout.{words, count_of}
 use Rattle.words.specs.Fields.{values}
 use Rattle.words.specs.Entries.{with_word}
-use Rattle.words.proofs.Laws.Entries.{length_word, word_same, word_other}
+use Rattle.words.specs.Laws.Entries.{length_word, word_same, word_other}
 use Rattle.tables.specs.View.{header_at, value_at}
 use Rattle.promises.specs.Keeps.Edited.{Rest, word_rest, rest_then}
 

@@ -10,11 +10,11 @@ use Rattle.logic.specs.Search.{all_b}
 use Rattle.words.specs.Sets.{bits, none, has}
 use Rattle.words.specs.Fields.{is_free, repository_in}
 use Rattle.words.specs.Entries.{formed, all_formed}
-use Rattle.words.proofs.Laws.Fields.{label_test}
+use Rattle.words.specs.Laws.Fields.{label_test}
 use Rattle.logic.specs.Laws.Bools.{and_left}
 use Rattle.logic.specs.Laws.Decides.{equal, denied, every, restated, same_test, itself}
-use Rattle.words.proofs.Laws.Sets.{has_none, set_member, none_is_empty}
-use Rattle.words.proofs.Laws.Entries.{entry_test}
+use Rattle.words.specs.Laws.Sets.{has_none, set_member, none_is_empty}
+use Rattle.words.specs.Laws.Entries.{entry_test}
 use Rattle.tables.specs.View.{label_at}
 use Rattle.tables.specs.Sound.{distinct, sound_group, sound_tables}
 use Rattle.tables.specs.Laws.Sound.{table_long, table_entries, sound_working}

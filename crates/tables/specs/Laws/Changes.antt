@@ -7,7 +7,7 @@ use Rattle.words.specs.Layout.{words, count_of}
 use Rattle.words.specs.Sets.{insert, remove}
 use Rattle.words.specs.Fields.{values, with_flag, without_flag}
 use Rattle.words.specs.Entries.{cursor_in, with_word, with_words}
-use Rattle.words.proofs.Laws.Entries.{length_word, word_beyond, word_cursor, length_entry, entry_beyond, entry_cursor, length_made, made_beyond}
+use Rattle.words.specs.Laws.Entries.{length_word, word_beyond, word_cursor, length_entry, entry_beyond, entry_cursor, length_made, made_beyond}
 use Rattle.tables.specs.declared.changes.Change.{Change}
 use Rattle.tables.specs.declared.changes.Change.TheVariants.{Made, Gone, Joined, Left, Put, Unset}
 use Rattle.tables.specs.View.{set_at, header_at}

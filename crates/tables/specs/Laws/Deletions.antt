@@ -12,8 +12,8 @@ use Rattle.words.specs.Fields.{type_in, values, without_flag}
 use Rattle.words.specs.Entries.{with_word}
 use Rattle.logic.specs.Laws.Bools.{and_ended}
 use Rattle.logic.specs.Laws.Search.{none_from, any_only}
-use Rattle.words.proofs.Laws.Fields.{alike_without}
-use Rattle.words.proofs.Laws.Entries.{word_written, word_other}
+use Rattle.words.specs.Laws.Fields.{alike_without}
+use Rattle.words.specs.Laws.Entries.{word_written, word_other}
 use Rattle.dictionary.specs.Quick.References.{reference_of}
 use Rattle.tables.specs.View.{is_live, header_at, type_at, model_at, value_at}
 use Rattle.tables.specs.Edits.{without_value}

@@ -8,7 +8,7 @@ use Rattle.words.specs.Layout.{stride_of, count_of, place_of}
 use Rattle.words.specs.Fields.{values}
 use Rattle.words.specs.Entries.{in_entry, word_of, with_word}
 use Rattle.logic.specs.Laws.Bools.{and_ended}
-use Rattle.words.proofs.Laws.Entries.{word_other}
+use Rattle.words.specs.Laws.Entries.{word_other}
 use Rattle.tables.specs.View.{header_at}
 use Rattle.tables.specs.Edits.{with_value, without_value}
 

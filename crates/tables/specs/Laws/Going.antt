@@ -11,7 +11,7 @@ use Rattle.words.specs.Copies.{is_long}
 use Rattle.words.specs.Sets.{bits, none, has, insert}
 use Rattle.words.specs.Fields.{values}
 use Rattle.logic.specs.Laws.Bools.{and_left, and_right, and_ended, clash}
-use Rattle.words.proofs.Laws.Sets.{has_insert, has_none, set_member, or_lacks}
+use Rattle.words.specs.Laws.Sets.{has_insert, has_none, set_member, or_lacks}
 use Rattle.dictionary.specs.Dictionary.{is_reference, attribute_of}
 use Rattle.dictionary.specs.Quick.References.{no_reference, reference_of}
 use Rattle.dictionary.proofs.Laws.References.{reference_among}

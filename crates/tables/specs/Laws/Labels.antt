@@ -15,9 +15,9 @@ use Rattle.words.specs.Copies.{is_long, same_at}
 use Rattle.logic.specs.Laws.Bools.{and_left, and_ended, or_right}
 use Rattle.logic.specs.Laws.Decides.{equal, every}
 use Rattle.logic.specs.Laws.Search.{all_more, all_at, all_from, all_stop, all_done, all_same}
-use Rattle.words.proofs.Laws.Layout.{stride_positive}
-use Rattle.words.proofs.Laws.Fields.{label_test, label_is_live}
-use Rattle.words.proofs.Laws.Entries.{entry_test}
+use Rattle.words.specs.Laws.Layout.{stride_positive}
+use Rattle.words.specs.Laws.Fields.{label_test, label_is_live}
+use Rattle.words.specs.Laws.Entries.{entry_test}
 use Rattle.tables.specs.declared.live.Live.{Live}
 use Rattle.tables.specs.declared.labels.Tested.TheVariants.{Sound, Unsound}
 use Rattle.tables.specs.View.{label_at, set_at}

@@ -17,10 +17,10 @@ use Rattle.words.specs.Fields.{schema_in, type_in, model_in, is_label}
 use Rattle.words.specs.Entries.{free_at}
 use Rattle.logic.specs.Laws.Bools.{and_right}
 use Rattle.logic.specs.Laws.Decides.{equal, every, restated, same_test, itself, implied}
-use Rattle.words.proofs.Laws.Sets.{set_later, set_member, same_members}
-use Rattle.words.proofs.Laws.Fields.{Label, label_test, label_is_live}
+use Rattle.words.specs.Laws.Sets.{set_later, set_member, same_members}
+use Rattle.words.specs.Laws.Fields.{Label, label_test, label_is_live}
 use Rattle.dictionary.specs.Dictionary.{is_type, schema_of}
-use Rattle.dictionary.proofs.Laws.Types.{type_schema}
+use Rattle.dictionary.specs.Laws.Types.{type_schema}
 use Rattle.tables.specs.declared.live.Live.{Live}
 use Rattle.tables.specs.View.{is_live, label_at, set_at}
 use Rattle.tables.specs.Sound.{sound_group}

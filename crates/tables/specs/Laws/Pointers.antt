@@ -7,7 +7,7 @@ use Rattle.std.specs.Int.Bits.{bit_and, and_zero_r}
 use Rattle.words.specs.Sets.{bit_of, has}
 use Rattle.words.specs.Fields.{values, type_in, flagged, is_free}
 use Rattle.logic.specs.Laws.Bools.{and_left, and_ended}
-use Rattle.words.proofs.Laws.Sets.{and_bit}
+use Rattle.words.specs.Laws.Sets.{and_bit}
 use Rattle.dictionary.specs.Dictionary.{is_reference, attribute_of, the_table}
 use Rattle.dictionary.specs.Quick.References.{no_reference, reference_of}
 use Rattle.dictionary.specs.Quick.Shapes.{flag_of, shape_of, mark_in}

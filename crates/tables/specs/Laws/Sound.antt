@@ -13,9 +13,9 @@ use Rattle.words.specs.Entries.{in_entry, word_of}
 use Rattle.words.specs.Copies.{is_long, agree}
 use Rattle.logic.specs.Laws.Bools.{and_left, and_right, or_right}
 use Rattle.logic.specs.Laws.Decides.{Decides, both, equal, at_most, restated, itself}
-use Rattle.words.proofs.Laws.Fields.{Header, header_test}
-use Rattle.words.proofs.Laws.Entries.{entry_test}
-use Rattle.words.proofs.Laws.Copies.{Agreeing, agree_test, agree_entries, agree_cursors}
+use Rattle.words.specs.Laws.Fields.{Header, header_test}
+use Rattle.words.specs.Laws.Entries.{entry_test}
+use Rattle.words.specs.Laws.Copies.{Agreeing, agree_test, agree_entries, agree_cursors}
 use Rattle.dictionary.specs.declared.answers.Attribute.{Attribute}
 use Rattle.dictionary.specs.declared.answers.Attribute.TheVariants.{Lacking, Whole, Reference}
 use Rattle.dictionary.specs.Dictionary.{is_type, schema_of}

@@ -18,8 +18,8 @@ use Rattle.words.specs.Fields.{schema_in, type_in, model_in, flags_in, values, f
 use Rattle.logic.specs.Laws.Bools.{and_left, and_ended, or_right, fails}
 use Rattle.logic.specs.Laws.Decides.{Decides, both, less, equal, at_most, denied, every, restated, same_test, itself, implied}
 use Rattle.logic.specs.Laws.Search.{all_at, all_from, all_same, all_both, all_one}
-use Rattle.words.proofs.Laws.Fields.{Header, flag_of_flags}
-use Rattle.words.proofs.Laws.Entries.{entry_test}
+use Rattle.words.specs.Laws.Fields.{Header, flag_of_flags}
+use Rattle.words.specs.Laws.Entries.{entry_test}
 use Rattle.dictionary.specs.declared.answers.Attribute.{Attribute}
 use Rattle.dictionary.specs.declared.answers.Attribute.TheVariants.{Lacking, Whole, Reference}
 use Rattle.dictionary.specs.Dictionary.{types, is_type, schema_of, lacks, is_reference, attributes_of, attribute_of, the_table}

@@ -5,7 +5,7 @@ use Rattle.dictionary.specs.declared.answers.Attribute.{Attribute}
 use Rattle.dictionary.specs.declared.answers.Attribute.TheVariants.{Lacking, Whole, Reference}
 use Rattle.logic.specs.Search.{all_b}
 use Rattle.dictionary.specs.Dictionary.{attribute_of, the_table}
-use Rattle.dictionary.proofs.Laws.Types.{of_type}
+use Rattle.dictionary.specs.Laws.Types.{of_type}
 use Rattle.dictionary.proofs.Laws.Attributes.{no_type_attribute}
 use Rattle.dictionary.proofs.kinds.first.Goals as goal
 

@@ -11,7 +11,7 @@ use Rattle.logic.specs.Search.{all_b}
 use Rattle.dictionary.specs.Dictionary.{types, is_type, the_table}
 use Rattle.dictionary.specs.Subtype as spec
 use Rattle.dictionary.specs.Quick.References.{mask_below}
-use Rattle.dictionary.proofs.Laws.Types.{of_pair}
+use Rattle.dictionary.specs.Laws.Types.{of_pair}
 use Rattle.dictionary.proofs.Laws.Subtypes.{subtype_same, no_type_below, no_type_above}
 use Rattle.dictionary.proofs.pairs.subtype.Goals as goal
 use Rattle.dictionary.proofs.pairs.subtype.Goals.{else-is_type-via-then-is_type+else-is_type-2, else-is_type-via-else-is_type}

@@ -2,7 +2,7 @@ use mathlib.Core.Path.{sym, ◌∙◌, ap}
 use Prim.Native.Nat.{ℕ}
 use Rattle.dictionary.specs.Subtype as spec
 use Rattle.dictionary.proofs.Laws.Subtypes.{subtype_up, subtype_root, subtype_same}
-use Rattle.dictionary.proofs.Laws.Types.{parent_lower}
+use Rattle.dictionary.specs.Laws.Types.{parent_lower}
 use Rattle.dictionary.proofs.parents.+subtype.Goals as goal
 
 pub returns-then-a-b : goal.returns-then-a-b

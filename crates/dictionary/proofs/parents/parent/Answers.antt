@@ -6,7 +6,7 @@ use Rattle.dictionary.specs.declared.answers.Parent.{Parent}
 use Rattle.dictionary.specs.declared.answers.Parent.TheVariants.{Root, Is}
 use Rattle.logic.specs.Search.{all_b}
 use Rattle.dictionary.specs.Dictionary.{parent_of, above, the_table}
-use Rattle.dictionary.proofs.Laws.Types.{no_type_parent}
+use Rattle.dictionary.specs.Laws.Types.{no_type_parent}
 use Rattle.dictionary.proofs.Arms.{among, default}
 use Rattle.dictionary.proofs.parents.parent.Goals as goal
 

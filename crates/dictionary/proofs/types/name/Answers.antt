@@ -5,7 +5,7 @@ use mathlib.Core.List.{[], ◌∷◌}
 use borrow.Author.Tests.{not-true}
 use Rattle.logic.specs.Search.{all_b}
 use Rattle.dictionary.specs.Dictionary.{types, is_type, name_of, dictionary, the_table}
-use Rattle.dictionary.proofs.Laws.Types.{no_type_name}
+use Rattle.dictionary.specs.Laws.Types.{no_type_name}
 use Rattle.dictionary.proofs.Arms.{among, default}
 use Rattle.dictionary.proofs.types.name.Goals as goal
 

@@ -7,7 +7,7 @@ use borrow.Author.Tests.{eqb-true, le-ltb}
 use Rattle.logic.specs.Search.{all_b}
 use Rattle.logic.specs.Laws.Search.{all_at}
 use Rattle.dictionary.specs.Dictionary.{types, schema_of, the_table}
-use Rattle.dictionary.proofs.Laws.Types.{no_type_schema}
+use Rattle.dictionary.specs.Laws.Types.{no_type_schema}
 use Rattle.dictionary.proofs.types.schema.Goals as goal
 
 pub returns-in-0-to-7 : goal.returns-in-0-to-7

@@ -4,7 +4,7 @@ use Rattle.words.specs.declared.layout.Kind.TheVariants.{Instance}
 use Rattle.words.specs.Layout.{count_of}
 use Rattle.logic.specs.Search.{any_b}
 use Rattle.logic.specs.Laws.Search.{none_more, any_stop}
-use Rattle.words.proofs.Laws.Present.{none_present}
+use Rattle.words.specs.Laws.Present.{none_present}
 use Rattle.tables.specs.Laws.Deletions.{free_holds}
 use Rattle.tables.specs.Deletions.{goes_with, holds_back, held_back}
 use Rattle.tables.proofs.deletions.held_back.Goals as goal

@@ -3,7 +3,7 @@ use lib.ListN.{get_or}
 use native.Mathlib.Omega.{arith}
 use native.Mathlib.Numerals.{add-one}
 use Rattle.logic.specs.Search.{all_b}
-use Rattle.words.proofs.Laws.Copies.{no_difference}
+use Rattle.words.specs.Laws.Copies.{no_difference}
 use Rattle.words.proofs.copies.agree.Goals as goal
 
 pub loop-i-init : goal.loop-i-init

@@ -4,7 +4,7 @@ use Prim.Native.Nat.{ℕ}
 use native.Mathlib.Omega.{arith}
 use lib.ListN.{set, take, drop, length-set, get_or}
 use Rattle.words.specs.Layout.{words}
-use Rattle.words.proofs.Laws.Copies.{copy_more, copied_whole}
+use Rattle.words.specs.Laws.Copies.{copy_more, copied_whole}
 use Rattle.words.proofs.copies.copy.Goals as goal
 
 pub returns-then-n-ge-WORDS : goal.returns-then-n-ge-WORDS

@@ -4,7 +4,7 @@ use Prim.Native.Nat.{ℕ}
 use native.Mathlib.Omega.{arith}
 use lib.ListN.{get_or, set, take, drop, length-set}
 use Rattle.words.specs.Layout.{words}
-use Rattle.words.proofs.Laws.Copies.{copy_more}
+use Rattle.words.specs.Laws.Copies.{copy_more}
 use Rattle.words.proofs.copies.given.Goals as goal
 
 pub loop-at-preserved : goal.loop-at-preserved

@@ -4,7 +4,7 @@ use Prim.Native.Nat.{ℕ}
 use native.Mathlib.Omega.{arith}
 use lib.ListN.{take, drop, length-replicate}
 use Rattle.words.specs.Layout.{words}
-use Rattle.words.proofs.Laws.Copies.{all_taken_lem}
+use Rattle.words.specs.Laws.Copies.{all_taken_lem}
 use Rattle.words.proofs.copies.taken.Invariants.{zeros}
 use Rattle.words.proofs.copies.taken.Goals as goal
 

@@ -4,7 +4,7 @@ use native.Mathlib.Omega.{arith}
 use Rattle.words.specs.Layout.{count_of}
 use Rattle.words.specs.Entries.{free_at}
 use Rattle.logic.specs.Laws.Search.{first_hit, first_miss}
-use Rattle.words.proofs.Laws.Present.{first_present}
+use Rattle.words.specs.Laws.Present.{first_present}
 use Rattle.words.proofs.search.first_free.Goals as goal
 
 pub returns-then-is_free : goal.returns-then-is_free

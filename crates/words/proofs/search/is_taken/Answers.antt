@@ -6,7 +6,7 @@ use Rattle.logic.specs.Search.{any_b}
 use Rattle.words.specs.Fields.{is_named}
 use Rattle.words.specs.Entries.{word_of}
 use Rattle.logic.specs.Laws.Search.{none_more, any_stop}
-use Rattle.words.proofs.Laws.Present.{none_present}
+use Rattle.words.specs.Laws.Present.{none_present}
 use Rattle.words.proofs.search.is_taken.Goals as goal
 
 pub loop-i-init : goal.loop-i-init

@@ -4,7 +4,7 @@ use mathlib.Core.Path.{◌∙◌}
 use borrow.Author.Tests.{lt-ltb, le-ltb}
 use native.Mathlib.Omega.{arith}
 use Rattle.words.specs.Layout.{count_of}
-use Rattle.words.proofs.Laws.Entries.{next_from}
+use Rattle.words.proofs.Found.{next_from}
 use Rattle.words.proofs.search.next_free.Goals as goal
 
 pub returns-then-ahead-count : goal.returns-then-ahead-count

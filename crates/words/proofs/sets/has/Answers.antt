@@ -1,6 +1,6 @@
 -- Below 64 the shift is the division of the definition; above, a word has no bit.
 use mathlib.Core.Path.{sym}
-use Rattle.words.proofs.Laws.Sets.{has_past}
+use Rattle.words.specs.Laws.Sets.{has_past}
 use Rattle.words.proofs.sets.has.Goals as goal
 
 pub returns-else-m-lt-BITS : goal.returns-else-m-lt-BITS

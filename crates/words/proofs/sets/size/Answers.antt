@@ -1,5 +1,5 @@
 -- The machine's count of ones is the length of the list of members.
-use Rattle.words.proofs.Laws.Sets.{size_is_ones}
+use Rattle.words.specs.Laws.Sets.{size_is_ones}
 use Rattle.words.proofs.sets.size.Goals as goal
 
 pub returns : goal.returns

@@ -1,6 +1,6 @@
 -- The machine's `or` with one bit adds that bit where it was absent.
 use borrow.Author.Tests.{lt-ltb}
-use Rattle.words.proofs.Laws.Sets.{one_shifted, or_bit}
+use Rattle.words.specs.Laws.Sets.{one_shifted, or_bit}
 use Rattle.words.proofs.sets.with.Goals as goal
 
 pub returns-then-m-lt-BITS : goal.returns-then-m-lt-BITS

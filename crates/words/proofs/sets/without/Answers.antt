@@ -2,7 +2,7 @@
 use Prim.Native.Nat.{ℕ, ◌-◌}
 use mathlib.Core.Path.{sym, ap, ◌∙◌}
 use lib.Bits.{bit_and}
-use Rattle.words.proofs.Laws.Sets.{one_shifted, and_bit, remove_past}
+use Rattle.words.specs.Laws.Sets.{one_shifted, and_bit, remove_past}
 use Rattle.words.proofs.sets.without.Goals as goal
 
 pub returns-then-m-lt-BITS : goal.returns-then-m-lt-BITS

@@ -11,8 +11,8 @@ use Rattle.words.specs.Entries.{in_entry, word_of, free_at}
 use Rattle.words.specs.Quick.Present.{reached, Present}
 use Rattle.logic.specs.Search.{any_b, first_from}
 use Rattle.logic.specs.Laws.Search.{none_from, none_at, first_hit, first_none}
-use Rattle.words.proofs.Laws.Layout.{stride_positive}
-use Rattle.words.proofs.Laws.Entries.{entry_test}
+use Rattle.words.specs.Laws.Layout.{stride_positive}
+use Rattle.words.specs.Laws.Entries.{entry_test}
 
 pub reached_there : (kind : Kind) (len i : ℕ) → base_of kind < len → i < reached kind len → place_of kind i < len
 reached_there Model len i h l = omega arith

@@ -14,8 +14,8 @@ use Rattle.logic.specs.Search.{all_b}
 use Rattle.words.specs.Copies.{same_at, agree, in_both, copied}
 use Rattle.logic.specs.Laws.Bools.{and_ended}
 use Rattle.logic.specs.Laws.Decides.{Decides, same_test, both, equal, at_most, every, restated}
-use Rattle.words.proofs.Laws.Layout.{cursor_in_use}
-use Rattle.words.proofs.Laws.Entries.{word_alike}
+use Rattle.words.specs.Laws.Layout.{cursor_in_use}
+use Rattle.words.specs.Laws.Entries.{word_alike}
 
 -- one word more is copied
 pub copy_more : (from to : List ℕ) (i : ℕ) → i < length from → i < length to → set (take i from ++ drop i to) i (get_or from i 0) ≡ take (i + 1) from ++ drop (i + 1) to

@@ -7,7 +7,7 @@ use Rattle.words.specs.Layout.{count_of}
 use Rattle.words.specs.Sets.{bit_of, has}
 use Rattle.words.specs.Fields.{label_of, name_in, repository_in, schema_in, repositories, is_label, header_of, type_in, model_in, flags_in, values, is_header, flagged, with_flag, without_flag, is_free}
 use Rattle.logic.specs.Laws.Decides.{Decides, both, less, at_most, restated}
-use Rattle.words.proofs.Laws.Sets.{has_none, has_insert, has_remove}
+use Rattle.words.specs.Laws.Sets.{has_none, has_insert, has_remove}
 
 -- ---- labels
 
