@@ -3,7 +3,7 @@
 use Rattle.std.specs.Prelude.{ℕ, List, [], ◌∷◌, cond, eqb}
 use Rattle.checks.specs.declared.operations.Operation.{Operation}
 use Rattle.checks.specs.declared.operations.Operation.TheVariants as operation
-use Rattle.checks.specs.declared.operations.InSession.TheVariants as inSession
+use Rattle.checks.specs.declared.operations.InSession.TheVariants as in_session
 use Rattle.checks.specs.declared.operations.Reader.TheVariants as reader
 use Rattle.checks.specs.declared.operations.Writer.TheVariants as writer
 
@@ -19,18 +19,18 @@ n is o = record { number = n; names = o }
 unfoldable pub listed : List Numbered
 listed =
     1 is operation.Opening
-    ∷ 2 is (operation.InSession inSession.CloseSession)
-    ∷ 3 is (operation.InSession inSession.OpenRepository)
-    ∷ 4 is (operation.InSession inSession.CloseRepository)
-    ∷ 5 is (operation.InSession inSession.StartReadWrite)
-    ∷ 6 is (operation.InSession inSession.StartReadOnly)
-    ∷ 7 is (operation.InSession inSession.Commit)
-    ∷ 8 is (operation.InSession inSession.Abort)
-    ∷ 9 is (operation.InSession inSession.EndCommit)
-    ∷ 10 is (operation.InSession inSession.EndAbort)
-    ∷ 11 is (operation.InSession inSession.StartRecording)
-    ∷ 12 is (operation.InSession inSession.StopRecording)
-    ∷ 13 is (operation.InSession inSession.StorageFault)
+    ∷ 2 is (operation.InSession in_session.CloseSession)
+    ∷ 3 is (operation.InSession in_session.OpenRepository)
+    ∷ 4 is (operation.InSession in_session.CloseRepository)
+    ∷ 5 is (operation.InSession in_session.StartReadWrite)
+    ∷ 6 is (operation.InSession in_session.StartReadOnly)
+    ∷ 7 is (operation.InSession in_session.Commit)
+    ∷ 8 is (operation.InSession in_session.Abort)
+    ∷ 9 is (operation.InSession in_session.EndCommit)
+    ∷ 10 is (operation.InSession in_session.EndAbort)
+    ∷ 11 is (operation.InSession in_session.StartRecording)
+    ∷ 12 is (operation.InSession in_session.StopRecording)
+    ∷ 13 is (operation.InSession in_session.StorageFault)
     ∷ 20 is (operation.Writer writer.CreateModel)
     ∷ 21 is (operation.Writer writer.DeleteModel)
     ∷ 22 is (operation.Reader reader.ReadOnlyAccess)
@@ -47,7 +47,7 @@ listed =
     ∷ 43 is (operation.Reader reader.Test)
     ∷ 44 is (operation.Writer writer.Put)
     ∷ 45 is (operation.Writer writer.Unset)
-    ∷ 46 is (operation.InSession inSession.IsSubtype)
+    ∷ 46 is (operation.InSession in_session.IsSubtype)
     ∷ []
 
 unfoldable pub lookup : ℕ → List Numbered → Operation

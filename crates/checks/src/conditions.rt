@@ -1,7 +1,7 @@
 // What the conditions of the refusals say, of the words that an operation has read: each word is read once.
 ghost use Rattle.std.specs.Prelude.{◌≡◌, not};
 ghost use Rattle.dictionary.specs.Dictionary.{is_type};
-ghost use Rattle.checks.specs.Checks.{no_repository, not_opened, away as awayFrom, missing as missingEntry, no_writing, no_access, lacks_attribute, schemas_differ, type_foreign, types_differ, wrong_type, apart as apartIn};
+ghost use Rattle.checks.specs.Checks.{no_repository, not_opened, away as away_from, missing as missing_entry, no_writing, no_access, lacks_attribute, schemas_differ, type_foreign, types_differ, wrong_type, apart as apart_in};
 
 use state::state::State;
 use tables::view::share_set;
@@ -23,14 +23,14 @@ pub fn not_opened(s: State, r: u32) -> bool
 
 // The repository of a label is not open.
 pub fn away(s: State, label: u64) -> bool
-    ensures { result ≡ awayFrom s label }
+    ensures { result ≡ away_from s label }
 {
     not_opened(s, repository_in(label))
 }
 
 // The first word of an entry is free, as it reads past the last entry too.
 pub fn missing(first: u64) -> bool
-    ensures { result ≡ missingEntry first }
+    ensures { result ≡ missing_entry first }
 {
     is_free(first)
 }
@@ -90,7 +90,7 @@ pub fn wrong_type(header: u64, target: u32) -> bool
 
 // Models m and n are neither the same nor in one set.
 pub fn apart(w: &[u64], m: u32, n: u32) -> bool
-    ensures { result ≡ apartIn w.now m n }
+    ensures { result ≡ apart_in w.now m n }
 {
     if m == n {
         return false;

@@ -3,7 +3,7 @@
 // them all.
 ghost use Rattle.std.specs.Prelude.{◌≡◌, cond};
 ghost use Rattle.state.specs.Refusals.{◌on◌};
-ghost use Rattle.checks.specs.Checks.{first_of, in_reach, writable as writableOf, accessed as accessedOf};
+ghost use Rattle.checks.specs.Checks.{first_of, in_reach, writable as writable_of, accessed as accessed_of};
 ghost use Rattle.checks.specs.Quick.Known.{known};
 
 use crate::conditions::{away, missing, no_access, no_writing};
@@ -33,7 +33,7 @@ pub fn in_reach(label: u64, refusal: u8, place: u8, s: State, rest: u32) -> u32
 
 // The entry with this first word is there, or this refusal is given, and model m has read-write access; and then the rest.
 pub fn writable(entry: u64, refusal: u8, m: u32, s: State, rest: u32) -> u32
-    ensures { result ≡ first_of (writableOf entry refusal m s (known rest)) }
+    ensures { result ≡ first_of (writable_of entry refusal m s (known rest)) }
 {
     first(
         missing(entry),
@@ -45,7 +45,7 @@ pub fn writable(entry: u64, refusal: u8, m: u32, s: State, rest: u32) -> u32
 
 // Model m with this label is there, and it has access; and then the rest.
 pub fn accessed(label: u64, m: u32, s: State, rest: u32) -> u32
-    ensures { result ≡ first_of (accessedOf label m s (known rest)) }
+    ensures { result ≡ first_of (accessed_of label m s (known rest)) }
 {
     first(
         missing(label),

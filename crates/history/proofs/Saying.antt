@@ -11,7 +11,7 @@ use Rattle.tables.specs.declared.changes.Change.TheVariants.{Made, Gone, Joined,
 use Rattle.checks.specs.declared.operations.Operation.{Operation}
 use Rattle.checks.specs.declared.operations.Operation.TheVariants as operation
 use Rattle.checks.specs.declared.operations.InSession.{InSession}
-use Rattle.checks.specs.declared.operations.InSession.TheVariants as inSession
+use Rattle.checks.specs.declared.operations.InSession.TheVariants as in_session
 use Rattle.checks.specs.declared.operations.Writer.{Writer}
 use Rattle.checks.specs.declared.operations.Writer.TheVariants as writer
 
@@ -22,19 +22,19 @@ pub data Said : Type 0 where
   drops : Said
 
 abbrev pub session_says : InSession → Said
-session_says inSession.CloseSession = drops
-session_says inSession.OpenRepository = silent
-session_says inSession.CloseRepository = silent
-session_says inSession.StartReadWrite = silent
-session_says inSession.StartReadOnly = silent
-session_says inSession.Commit = commits
-session_says inSession.Abort = drops
-session_says inSession.EndCommit = commits
-session_says inSession.EndAbort = drops
-session_says inSession.StartRecording = silent
-session_says inSession.StopRecording = silent
-session_says inSession.StorageFault = drops
-session_says inSession.IsSubtype = silent
+session_says in_session.CloseSession = drops
+session_says in_session.OpenRepository = silent
+session_says in_session.CloseRepository = silent
+session_says in_session.StartReadWrite = silent
+session_says in_session.StartReadOnly = silent
+session_says in_session.Commit = commits
+session_says in_session.Abort = drops
+session_says in_session.EndCommit = commits
+session_says in_session.EndAbort = drops
+session_says in_session.StartRecording = silent
+session_says in_session.StopRecording = silent
+session_says in_session.StorageFault = drops
+session_says in_session.IsSubtype = silent
 
 abbrev pub writer_says : Writer → ℕ → ℕ → ℕ → ℕ → Said
 writer_says writer.CreateModel a b c value = changes (Made Model value (label_of a b c))

@@ -24,7 +24,7 @@ use Rattle.tables.specs.Changes.{apply}
 use Rattle.checks.specs.declared.operations.Operation.{Operation}
 use Rattle.checks.specs.declared.operations.Operation.TheVariants as operation
 use Rattle.checks.specs.declared.operations.InSession.{InSession}
-use Rattle.checks.specs.declared.operations.InSession.TheVariants as inSession
+use Rattle.checks.specs.declared.operations.InSession.TheVariants as in_session
 use Rattle.checks.specs.declared.operations.Reader.{Reader}
 use Rattle.checks.specs.declared.operations.Reader.TheVariants as reader
 use Rattle.checks.specs.declared.operations.Writer.{Writer}
@@ -126,19 +126,19 @@ module _ (a b c : ℕ) (x : Session) (w k : List ℕ) (h : Sound x w k) (small :
       creating kind (label_of a b c) (label_is_live _ (label_made a b c q.known q.lowest q.highest small)) shows (λ z. absurd (other z)) e
 
   session_speaks : (o : InSession) → Speaks w k (session_says o) (session_row o a b x.state).effect.tables
-  session_speaks inSession.CloseSession = dropping
-  session_speaks inSession.OpenRepository = quiet
-  session_speaks inSession.CloseRepository = quiet
-  session_speaks inSession.StartReadWrite = quiet
-  session_speaks inSession.StartReadOnly = quiet
-  session_speaks inSession.Commit = commit
-  session_speaks inSession.Abort = drop
-  session_speaks inSession.EndCommit = committing
-  session_speaks inSession.EndAbort = dropping
-  session_speaks inSession.StartRecording = quiet
-  session_speaks inSession.StopRecording = quiet
-  session_speaks inSession.StorageFault = dropping
-  session_speaks inSession.IsSubtype = quiet
+  session_speaks in_session.CloseSession = dropping
+  session_speaks in_session.OpenRepository = quiet
+  session_speaks in_session.CloseRepository = quiet
+  session_speaks in_session.StartReadWrite = quiet
+  session_speaks in_session.StartReadOnly = quiet
+  session_speaks in_session.Commit = commit
+  session_speaks in_session.Abort = drop
+  session_speaks in_session.EndCommit = committing
+  session_speaks in_session.EndAbort = dropping
+  session_speaks in_session.StartRecording = quiet
+  session_speaks in_session.StopRecording = quiet
+  session_speaks in_session.StorageFault = dropping
+  session_speaks in_session.IsSubtype = quiet
 
   reader_speaks : (o : Reader) → Speaks w k silent (reader_row o a b x.state w).effect.tables
   reader_speaks reader.ReadOnlyAccess = quiet

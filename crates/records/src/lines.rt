@@ -1,7 +1,7 @@
 // The lines that the reader's program prints, each written into a lent buffer at a position, whole or not at all. The
 // answer is the next position.
 ghost use Rattle.std.specs.Prelude.{◌≡◌, ◌∷◌, [], ◌<◌, ◌≤◌, ◌+◌, leb, length};
-ghost use Rattle.records.specs.Lines.{digit as digitOf, ended, blank, over, written, after, line_text, bad_text, end_text, last_text};
+ghost use Rattle.records.specs.Lines.{digit as digit_of, ended, blank, over, written, after, line_text, bad_text, end_text, last_text};
 ghost use Rattle.records.specs.Laws.Decimal.{width_of, digits};
 ghost use Rattle.records.specs.Laws.Writing.{Wrote};
 
@@ -11,7 +11,7 @@ const LINE_FEED: u8 = 10;
 
 fn digit(d: u64) -> u8
     requires { d < 10 }
-    ensures { result ≡ digitOf d }
+    ensures { result ≡ digit_of d }
 {
     48 + d as u8
 }

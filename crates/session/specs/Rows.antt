@@ -16,7 +16,7 @@ use Rattle.tables.specs.declared.changes.Change.TheVariants.{Gone, Joined, Left,
 use Rattle.checks.specs.declared.operations.Operation.{Operation}
 use Rattle.checks.specs.declared.operations.Operation.TheVariants as operation
 use Rattle.checks.specs.declared.operations.InSession.{InSession}
-use Rattle.checks.specs.declared.operations.InSession.TheVariants as inSession
+use Rattle.checks.specs.declared.operations.InSession.TheVariants as in_session
 use Rattle.checks.specs.declared.operations.Reader.{Reader}
 use Rattle.checks.specs.declared.operations.Reader.TheVariants as reader
 use Rattle.checks.specs.declared.operations.Writer.{Writer}
@@ -49,25 +49,25 @@ abbrev pub settling : State → List Check
 settling s = under s ABORTED gives TR_EAB on 0 ∷ under s NONE gives TR_NEXS on 0 ∷ under s RO gives TR_NRW on 0 ∷ []
 
 abbrev pub session_row : InSession → ℕ → ℕ → State → Row
-session_row inSession.CloseSession a b s = [] then does 0 closed_state (if_writing s Drop)
-session_row inSession.OpenRepository a b s =
+session_row in_session.CloseSession a b s = [] then does 0 closed_state (if_writing s Drop)
+session_row in_session.OpenRepository a b s =
     no_repository a gives RP_NEXS on 1 ∷ has s.repositories a gives RP_OPN on 1 ∷ []
     then does 0 (with_repositories s (insert s.repositories a)) Stay
-session_row inSession.CloseRepository a b s =
+session_row in_session.CloseRepository a b s =
     untransacted s (no_repository a gives RP_NEXS on 1 ∷ not_opened s a gives RP_NOPN on 1 ∷ [])
     then does 0 (with_repositories s (remove s.repositories a)) Stay
-session_row inSession.StartReadWrite a b s = untransacted s [] then does 0 (with_transaction s RW) Stay
-session_row inSession.StartReadOnly a b s = untransacted s [] then does 0 (with_transaction s RO) Stay
-session_row inSession.Commit a b s = settling s then does 0 s Commit
-session_row inSession.Abort a b s = settling s then does 0 (with_access s none none) Drop
-session_row inSession.EndCommit a b s =
+session_row in_session.StartReadWrite a b s = untransacted s [] then does 0 (with_transaction s RW) Stay
+session_row in_session.StartReadOnly a b s = untransacted s [] then does 0 (with_transaction s RO) Stay
+session_row in_session.Commit a b s = settling s then does 0 s Commit
+session_row in_session.Abort a b s = settling s then does 0 (with_access s none none) Drop
+session_row in_session.EndCommit a b s =
     under s ABORTED gives TR_EAB on 0 ∷ under s NONE gives TR_NEXS on 0 ∷ [] then does 0 (ended s NONE) (if_writing s Commit)
-session_row inSession.EndAbort a b s = under s NONE gives TR_NEXS on 0 ∷ [] then does 0 (ended s NONE) (if_writing s Drop)
-session_row inSession.StartRecording a b s = [] then does 1 (with_recording s 1) Stay
-session_row inSession.StopRecording a b s = [] then does s.recording (with_recording s 0) Stay
-session_row inSession.StorageFault a b s =
+session_row in_session.EndAbort a b s = under s NONE gives TR_NEXS on 0 ∷ [] then does 0 (ended s NONE) (if_writing s Drop)
+session_row in_session.StartRecording a b s = [] then does 1 (with_recording s 1) Stay
+session_row in_session.StopRecording a b s = [] then does s.recording (with_recording s 0) Stay
+session_row in_session.StorageFault a b s =
     under s ABORTED gives TR_EAB on 0 ∷ under s NONE gives TR_NAVL on 0 ∷ [] then does 0 (ended s ABORTED) (if_writing s Drop)
-session_row inSession.IsSubtype a b s =
+session_row in_session.IsSubtype a b s =
     not (is_type a) gives ED_NDEF on 1 ∷ not (is_type b) gives ED_NDEF on 2 ∷ types_differ a b gives ED_NDEQ on 2 ∷ []
     then does (number (subtype a b)) s Stay
 

@@ -42,7 +42,7 @@ core op a b c x w k = finished op x w k (performed (operation_of op) a b c x.sta
 
 -- by whether the state is sound: SY_ERR comes before all else (CHIP, before every call), and gives the session back as it came
 abbrev pub judged : Bool → ℕ → ℕ → ℕ → ℕ → Session → List ℕ → List ℕ → Outcome
-judged isSound op a b c x w k = cond isSound (core op a b c x w k) (outcome (answer (SY_ERR on 0) 0 x) w k)
+judged is_sound op a b c x w k = cond is_sound (core op a b c x w k) (outcome (answer (SY_ERR on 0) 0 x) w k)
 
 unfoldable pub step : ℕ → ℕ → ℕ → ℕ → Session → List ℕ → List ℕ → Outcome
 step op a b c x w k = judged (sound x w k) op a b c x w k

@@ -6,7 +6,7 @@ ghost use Rattle.session.specs.Effects.{working_after, kept_after};
 ghost use Rattle.session.specs.Rows.{performed};
 ghost use Rattle.state.specs.Quick.Lent.{state_of};
 ghost use Rattle.session.specs.Quick.Served.{serving, served_by, lending, lent_by};
-ghost use Rattle.session.specs.Sound.{sound as soundState};
+ghost use Rattle.session.specs.Sound.{sound as sound_state};
 ghost use Rattle.session.specs.Step.{outcome, core as core_of, step};
 
 use crate::answers::{carried, finished, log_stays, unsound};
@@ -126,7 +126,7 @@ pub fn core(
 }
 
 pub fn is_sound(x: Session, working: &[u64], kept: &[u64]) -> bool
-    ensures { result ≡ soundState x working.now kept.now }
+    ensures { result ≡ sound_state x working.now kept.now }
 {
     let state = x.state;
     if !sound_tables(under(state, RW), working, kept) {

@@ -1,7 +1,7 @@
 // What a call does: its refusal, or what is done, the value, the state and what becomes of the tables. An operation
 // only says the change; the tables are written elsewhere.
 ghost use Rattle.std.specs.Prelude.{◌≡◌};
-ghost use Rattle.session.specs.Effects.{does, refuses, unless_refused, number, if_writing, created as createdIn};
+ghost use Rattle.session.specs.Effects.{does, refuses, unless_refused, number, if_writing, created as created_in};
 
 use state::refusals;
 use state::refusals::{on, room_of};
@@ -82,7 +82,7 @@ pub fn as_number(b: bool) -> u32
 
 // The next free number is taken; NO_ROOM if every entry is live.
 pub fn created(kind: Kind, first: u64, s: State, w: &[u64]) -> Effect
-    ensures { result ≡ createdIn kind first s w.now }
+    ensures { result ≡ created_in kind first s w.now }
 {
     let n = next_free(w, kind);
     if n < count(kind) {

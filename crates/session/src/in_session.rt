@@ -1,7 +1,7 @@
 // The operations that ask for an open session and no more.
 ghost use Rattle.std.specs.Prelude.{◌≡◌};
 ghost use Rattle.checks.specs.Checks.{first_of};
-ghost use Rattle.session.specs.Rows.{untransacted as untransactedOf, settling as settlingOf, session_row};
+ghost use Rattle.session.specs.Rows.{untransacted as untransacted_of, settling as settling_of, session_row};
 ghost use Rattle.checks.specs.Quick.Known.{known};
 ghost use Rattle.session.specs.Quick.Rows.{row_done};
 
@@ -33,7 +33,7 @@ fn open_repository(a: u32, s: State) -> Effect
 
 // No transaction is open, and then the rest.
 fn untransacted(s: State, rest: u32) -> u32
-    ensures { result ≡ first_of (untransactedOf s (known rest)) }
+    ensures { result ≡ first_of (untransacted_of s (known rest)) }
 {
     first(
         under(s, ABORTED),
@@ -83,7 +83,7 @@ fn start_read_only(s: State) -> Effect
 
 // Of commit and abort.
 fn settling(s: State) -> u32
-    ensures { result ≡ first_of (settlingOf s) }
+    ensures { result ≡ first_of (settling_of s) }
 {
     first(
         under(s, ABORTED),

@@ -3,8 +3,8 @@ ghost use Rattle.std.specs.Prelude.{◌≡◌};
 ghost use Rattle.words.specs.Sets.{size_of};
 ghost use Rattle.checks.specs.Checks.{first_of};
 ghost use Rattle.session.specs.Effects.{does};
-ghost use Rattle.session.specs.Rows.{creating as creatingOf, referring, writer_row};
-ghost use Rattle.session.specs.Quick.Rows.{row_done, putting as puttingOf};
+ghost use Rattle.session.specs.Rows.{creating as creating_of, referring, writer_row};
+ghost use Rattle.session.specs.Quick.Rows.{row_done, putting as putting_of};
 
 use crate::effects::{Effect, Tables, changed, created, done, moved, refused, unless};
 use checks::conditions::{
@@ -35,7 +35,7 @@ fn creating(
     s: State,
     w: &[u64],
 ) -> u32
-    ensures { result ≡ first_of (creatingOf kind taken repository schema name s w.now) }
+    ensures { result ≡ first_of (creating_of kind taken repository schema name s w.now) }
 {
     first(
         no_repository(repository),
@@ -278,7 +278,7 @@ fn reference(target: u32, m: u32, v: u32, w: &[u64]) -> u32
 
 // Of a value v that is put as an attribute of this kind, in an instance of model m. Only a reference asks more of it.
 fn putting(attribute: Attribute, m: u32, v: u32, w: &[u64]) -> u32
-    ensures { result ≡ first_of (puttingOf attribute m v w.now) }
+    ensures { result ≡ first_of (putting_of attribute m v w.now) }
 {
     match attribute {
         Attribute::Lacking => on(refusals::AT_NDEF, 2),

@@ -1,6 +1,6 @@
 // The log of events. This is the one place that adds an event.
 ghost use Rattle.std.specs.Prelude.{◌≡◌};
-ghost use Rattle.state.specs.States.{log, added as addedTo, blank_log, session, noted as noted_in};
+ghost use Rattle.state.specs.States.{log, added as added_to, blank_log, session, noted as noted_in};
 
 use crate::refusals::{number_in, place_in};
 use crate::state::{Event, Log, State, is_open};
@@ -28,7 +28,7 @@ pub fn blank_log() -> Log
 // With one event more behind the first n; of sixteen the oldest drops out. One array is filled either way, and moved in a
 // loop, not named one by one: so the compiler keeps the events in memory and copies them in few moves.
 fn added(before: [Event; 16], n: u64, e: Event) -> Log
-    ensures { result ≡ addedTo (log n before) e }
+    ensures { result ≡ added_to (log n before) e }
 {
     let mut events = [e; 16];
     if n < SLOTS {

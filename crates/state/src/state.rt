@@ -1,7 +1,7 @@
 // A session, as a caller holds it between calls: integers alone, every bit pattern a value, and the test of soundness
 // judges each.
 ghost use Rattle.std.specs.Prelude.{◌≡◌};
-ghost use Rattle.state.specs.States.{is_open, under as isUnder, with_recording, with_transaction, with_repositories, with_access, woken as wokenIn, ended as endedState, closed_state, opened_state, answer};
+ghost use Rattle.state.specs.States.{is_open, under as is_under, with_recording, with_transaction, with_repositories, with_access, woken as woken_in, ended as ended_state, closed_state, opened_state, answer};
 
 use crate::refusals::{number_in, place_in};
 use words::sets::{EMPTY, has, with};
@@ -71,7 +71,7 @@ pub fn is_open(s: State) -> bool
 
 // The session has this transaction.
 pub fn under(s: State, transaction: u32) -> bool
-    ensures { result ≡ isUnder s transaction }
+    ensures { result ≡ is_under s transaction }
 {
     s.transaction == transaction
 }
@@ -107,7 +107,7 @@ pub fn with_access(mut s: State, ro: u64, rw: u64) -> State
 
 // Model m has read-only access unless it has access that writes: one without access is woken.
 pub fn woken(s: State, m: u32) -> State
-    ensures { result ≡ wokenIn s m }
+    ensures { result ≡ woken_in s m }
 {
     if has(s.rw, m) {
         return s;
@@ -117,7 +117,7 @@ pub fn woken(s: State, m: u32) -> State
 
 // All access ends.
 pub fn ended(s: State, transaction: u32) -> State
-    ensures { result ≡ endedState s transaction }
+    ensures { result ≡ ended_state s transaction }
 {
     with_transaction(with_access(s, EMPTY, EMPTY), transaction)
 }

@@ -1,6 +1,6 @@
 // What the words of a table say.
 ghost use Rattle.std.specs.Prelude.{◌≡◌, ◌&&◌};
-ghost use Rattle.words.specs.Sets.{has as hasBit};
+ghost use Rattle.words.specs.Sets.{has as has_bit};
 ghost use Rattle.tables.specs.View.{is_live, label_at, set_at, share_set, header_at, is_set, value_at};
 
 use words::entries::read;
@@ -30,7 +30,7 @@ pub fn set_at(t: &[u64], s: u32) -> u64
 }
 
 fn has_both(set: u64, m: u32, n: u32) -> bool
-    ensures { result ≡ (hasBit set m && hasBit set n) }
+    ensures { result ≡ (has_bit set m && has_bit set n) }
 {
     has(set, m) & has(set, n)
 }

@@ -20,8 +20,8 @@ use Rattle.chip.specs.contracts.tray.chip_tray as chip-tray
 abbrev pub TrayPost : List Order → List Result → Chip → Trayed → Type 0
 TrayPost orders row chip t = t ≡ tray orders row chip
 
--- **That is what the source of `chip_tray` ensures.** The borrow checker does not follow this function, so there is no `Post` of
--- it; `ensures-1` is its contract, of what was handed over, of the values at entry and exit of each argument, and of the answer.
+-- **That is what the source of `chip_tray` ensures.** `ensures-1` is its contract, of what was handed over, of the values at
+-- entry and exit of each argument, and of the answer.
 pub tray_contract : {M : Type 1} {𝓤 : Ura M} (𝓛 : Logic 𝓤) (κs : _) (mem : _) (run : _) (orders : _) (answers : _) (x : _) (working : _) (kept : _)
     (orders' : _) (answers' : _) (x' : _) (working' : _) (kept' : _) (r : _)
     → chip-tray.ensures-1 𝓛 κs mem run orders answers x working kept orders' answers' x' working' kept' r

@@ -1,6 +1,6 @@
 // Sets of models in one word, bit m for model m. A number from 64 on is in no set.
 ghost use Rattle.std.specs.Prelude.{◌≡◌, eqb};
-ghost use Rattle.words.specs.Sets.{none, has as hasBit, insert, remove, size_of};
+ghost use Rattle.words.specs.Sets.{none, has as has_bit, insert, remove, size_of};
 
 pub const EMPTY: u64 = 0;
 
@@ -8,7 +8,7 @@ pub const EMPTY: u64 = 0;
 pub const BITS: u32 = 64;
 
 pub fn has(set: u64, m: u32) -> bool
-    ensures { result ≡ hasBit set m }
+    ensures { result ≡ has_bit set m }
 {
     if m < BITS { (set >> m) % 2 == 1 } else { false }
 }

@@ -27,14 +27,14 @@ abbrev pub turned : Turn → List ℕ → List ℕ → Turned
 turned t w k = record { turn = t; working = w; kept = k }
 
 abbrev pub turn_by : Bool → Answer → Turn
-turn_by isSound a = record { session = a.session; result = record { refusal = a.refusal; place = a.place; value = a.value }; sound = isSound }
+turn_by is_sound a = record { session = a.session; result = record { refusal = a.refusal; place = a.place; value = a.value }; sound = is_sound }
 
 -- before the first order: the state is tested
 abbrev pub begun_with : Session → List ℕ → List ℕ → Turn
 begun_with x w k = turn_by (sound x w k) (answer done 0 x)
 
 abbrev pub turned_by : Bool → Outcome → Turned
-turned_by isSound o = turned (turn_by isSound o.answer) o.working o.kept
+turned_by is_sound o = turned (turn_by is_sound o.answer) o.working o.kept
 
 unfoldable pub turn_of : Order → Turn → List ℕ → List ℕ → Turned
 turn_of o t w k = turned_by t.sound (judged t.sound o.op o.a o.b o.c t.session w k)

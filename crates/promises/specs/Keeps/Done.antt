@@ -11,7 +11,7 @@ use Rattle.tables.specs.View.{is_live, label_at, header_at, set_at, type_at, mod
 use Rattle.checks.specs.declared.operations.Operation.{Operation}
 use Rattle.checks.specs.declared.operations.Operation.TheVariants as operation
 use Rattle.checks.specs.declared.operations.InSession.{InSession}
-use Rattle.checks.specs.declared.operations.InSession.TheVariants as inSession
+use Rattle.checks.specs.declared.operations.InSession.TheVariants as in_session
 use Rattle.checks.specs.declared.operations.Reader.{Reader}
 use Rattle.checks.specs.declared.operations.Reader.TheVariants as reader
 use Rattle.checks.specs.declared.operations.Writer.{Writer}
@@ -33,19 +33,19 @@ use Rattle.promises.specs.Keeps.Changed.{After, model_created, group_created, in
 module _ (a b c : ℕ) (x : Session) (w k : List ℕ) (h : Sound x w k) (small : c < 0x1_0000_0000) where
   session_sound : (o : InSession) → is_open x.state ≡ true → Clear (session_row o a b x.state).checks → After x w k (session_row o a b x.state).effect
   unfolding Clear
-  session_sound inSession.CloseSession opened p = record { tables = dropped w k x.state h.tables; session = closed_sound _ }
-  session_sound inSession.OpenRepository opened p = repository_made x w k h opened a (leb-false _ _ p.0)
-  session_sound inSession.CloseRepository opened p = repository_gone x w k h opened (not-false _ p.1.0) a
-  session_sound inSession.StartReadWrite opened p = started x w k h opened (not-false _ p.1.0) RW (omega arith)
-  session_sound inSession.StartReadOnly opened p = started x w k h opened (not-false _ p.1.0) RO (omega arith)
-  session_sound inSession.Commit opened p = commits x w k h opened
-  session_sound inSession.Abort opened p = aborts x w k h opened
-  session_sound inSession.EndCommit opened p = ends x w k h opened NONE (omega arith) _ _ (committed w k x.state h.tables)
-  session_sound inSession.EndAbort opened p = ends x w k h opened NONE (omega arith) _ _ (dropped w k x.state h.tables)
-  session_sound inSession.StartRecording opened p = recorded x w k h opened 1 (omega arith)
-  session_sound inSession.StopRecording opened p = recorded x w k h opened 0 (omega arith)
-  session_sound inSession.StorageFault opened p = ends x w k h opened ABORTED (omega arith) _ _ (dropped w k x.state h.tables)
-  session_sound inSession.IsSubtype opened p = unchanged x w k h opened
+  session_sound in_session.CloseSession opened p = record { tables = dropped w k x.state h.tables; session = closed_sound _ }
+  session_sound in_session.OpenRepository opened p = repository_made x w k h opened a (leb-false _ _ p.0)
+  session_sound in_session.CloseRepository opened p = repository_gone x w k h opened (not-false _ p.1.0) a
+  session_sound in_session.StartReadWrite opened p = started x w k h opened (not-false _ p.1.0) RW (omega arith)
+  session_sound in_session.StartReadOnly opened p = started x w k h opened (not-false _ p.1.0) RO (omega arith)
+  session_sound in_session.Commit opened p = commits x w k h opened
+  session_sound in_session.Abort opened p = aborts x w k h opened
+  session_sound in_session.EndCommit opened p = ends x w k h opened NONE (omega arith) _ _ (committed w k x.state h.tables)
+  session_sound in_session.EndAbort opened p = ends x w k h opened NONE (omega arith) _ _ (dropped w k x.state h.tables)
+  session_sound in_session.StartRecording opened p = recorded x w k h opened 1 (omega arith)
+  session_sound in_session.StopRecording opened p = recorded x w k h opened 0 (omega arith)
+  session_sound in_session.StorageFault opened p = ends x w k h opened ABORTED (omega arith) _ _ (dropped w k x.state h.tables)
+  session_sound in_session.IsSubtype opened p = unchanged x w k h opened
 
   -- model m may be given access: it is live, and its repository is opened
   may_see_lem : (m : ℕ) → is_live w Model m ≡ true → has x.state.repositories (repository_in (label_at w Model m)) ≡ true

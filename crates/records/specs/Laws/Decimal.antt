@@ -4,7 +4,7 @@ use Rattle.std.proofs.Common.{ap, ◌∙◌, add-one, arith, pow-suc, div-lt_iff
 use borrow.Author.Tests.{lt-ltb, le-ltb, ltb-true, ltb-false}
 use Rattle.records.specs.Lines.{digit, decimal_in, decimal}
 
--- how many digits decimalIn k n has
+-- how many digits decimal_in k n has
 unfoldable pub width_in : ℕ → ℕ → ℕ
 width_in zero n = 0
 width_in (suc k) n = cond (ltb n 10) 0 (width_in k (n / 10)) + 1

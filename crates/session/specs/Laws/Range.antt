@@ -17,7 +17,7 @@ use Rattle.tables.specs.declared.changes.Change.TheVariants.{Made}
 use Rattle.checks.specs.declared.operations.Operation.{Operation}
 use Rattle.checks.specs.declared.operations.Operation.TheVariants as operation
 use Rattle.checks.specs.declared.operations.InSession.{InSession}
-use Rattle.checks.specs.declared.operations.InSession.TheVariants as inSession
+use Rattle.checks.specs.declared.operations.InSession.TheVariants as in_session
 use Rattle.checks.specs.declared.operations.Reader.{Reader}
 use Rattle.checks.specs.declared.operations.Reader.TheVariants as reader
 use Rattle.checks.specs.declared.operations.Writer.{Writer}
@@ -127,19 +127,19 @@ put_checks (Reference u) header k m v s w = refl
 
 session_fair : (o : InSession) (a b : ℕ) (s : State) → Fair s (session_row o a b s)
 unfolding all_in
-session_fair inSession.CloseSession a b s = fair refl refl
-session_fair inSession.OpenRepository a b s = fair refl refl
-session_fair inSession.CloseRepository a b s = fair refl refl
-session_fair inSession.StartReadWrite a b s = fair refl refl
-session_fair inSession.StartReadOnly a b s = fair refl refl
-session_fair inSession.Commit a b s = fair refl refl
-session_fair inSession.Abort a b s = fair refl refl
-session_fair inSession.EndCommit a b s = fair refl refl
-session_fair inSession.EndAbort a b s = fair refl refl
-session_fair inSession.StartRecording a b s = fair refl refl
-session_fair inSession.StopRecording a b s = fair refl refl
-session_fair inSession.StorageFault a b s = fair refl refl
-session_fair inSession.IsSubtype a b s = fair refl refl
+session_fair in_session.CloseSession a b s = fair refl refl
+session_fair in_session.OpenRepository a b s = fair refl refl
+session_fair in_session.CloseRepository a b s = fair refl refl
+session_fair in_session.StartReadWrite a b s = fair refl refl
+session_fair in_session.StartReadOnly a b s = fair refl refl
+session_fair in_session.Commit a b s = fair refl refl
+session_fair in_session.Abort a b s = fair refl refl
+session_fair in_session.EndCommit a b s = fair refl refl
+session_fair in_session.EndAbort a b s = fair refl refl
+session_fair in_session.StartRecording a b s = fair refl refl
+session_fair in_session.StopRecording a b s = fair refl refl
+session_fair in_session.StorageFault a b s = fair refl refl
+session_fair in_session.IsSubtype a b s = fair refl refl
 
 reader_fair : (o : Reader) (a b : ℕ) (s : State) (w : List ℕ) → Fair s (reader_row o a b s w)
 unfolding all_in

@@ -1,4 +1,4 @@
--- The live models of open repositories as a set, by which soundAccess is tested.
+-- The live models of open repositories as a set, by which sound_access is tested.
 use Rattle.std.specs.Prelude.{ℕ, Bool, not, ◌&&◌, List}
 use Rattle.words.specs.declared.layout.Kind.TheVariants.{Model}
 use Rattle.words.specs.Sets.{bits, has, set_of}
