@@ -15,7 +15,7 @@ os.chdir(os.path.join(os.path.dirname(os.path.abspath(__file__)), ".."))
 END = r"\s(){}\[\],;.\"`"
 NAME = re.compile(rf"[^{END}]+")
 DECLARED = re.compile(rf"^\s*(?:(?:abbrev|unfoldable|pub|let)\s+)*([^{END}]+)\s+:\s")
-BOUND = re.compile(rf"[({{]([^(){{}}:]+) :\s|λ ([^.(){{}}]+)\.|\blet ([^{END}]+) [:=]")
+BOUND = re.compile(rf"[({{]([^(){{}}:]+) :\s|λ ([^.(){{}}]+)\.|\blet ([^{END}]+) [:=]|\bas ([^{END}-]+)(?=[,}};]|$)|^\s*[^{END}]+ ((?:[^{END}=]+ )+)=(?:\s|$)")
 MADE = re.compile(r"^(returns|loop\d*|invariant|measure|decreases|preserved|falls|enum|match|in)(-|$)|-(requires|ensures|result|met|link)(-\d+)?$|^(array|shared|slice|overflow|cast|add|sub|mul|div|shr|shl)-")
 
 
@@ -55,12 +55,14 @@ for path in antt:
             stated.update(found)
         local.update(n for n in found if not (MADE.search(n) or "Need" in line))
         for m in BOUND.finditer(line):
-            local.update((m.group(1) or m.group(2) or m.group(3)).split())
+            local.update(next(g for g in m.groups() if g).split())
 for path in source:
     for line in read(path).splitlines():
         m = None if is_comment(line) else re.search(r"\bfn (\w+)", line)
         if m:
             code.add(m.group(1))
+        if line.startswith("ghost use "):
+            local.update(re.findall(r"\bas (\w+)", line))
 
 renamed, giving_way = {}, {}
 for name in sorted(stated | local, key=lambda n: ("-" in n, n)):
