@@ -1,6 +1,6 @@
 // The machine without the test of soundness, for the bench alone: what a call costs once the state is known to be sound. The
-// lines of `core` stand here themselves: a function for C that hands on to it copies the answer once more. `bench_core_c`
-// hands this on to C.
+// lines of `core` stand here themselves, since a function that hands on to `core` copies the answer once more. `bench_core_c`
+// hands this one on to C.
 #![tactic(auto)]
 
 ghost use Rattle.std.specs.Prelude.{◌≡◌};

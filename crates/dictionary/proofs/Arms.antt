@@ -4,13 +4,13 @@ use mathlib.Core.Path.{◌≡◌, refl}
 use mathlib.Core.Bool.{Bool, true, false, ◌||◌}
 use mathlib.Core.Logic.{⊎_elim}
 use mathlib.Core.List.{List, [], ◌∷◌}
-use Prim.Native.Nat.{ℕ, zero, suc, ◌≤◌}
+use Prim.Native.Nat.{ℕ, zero, suc, ◌≤◌, ◌<◌}
 use native.Mathlib.Omega.{arith}
 use lib.Dec.{eqb}
-use borrow.Author.Tests.{ne_eqb}
+use borrow.Author.Tests.{ne_eqb, ltb-true}
 use Rattle.logic.specs.Search.{all_b}
 use Rattle.logic.specs.Laws.Bools.{decided}
-use Rattle.dictionary.specs.Dictionary.{types, is_type}
+use Rattle.dictionary.specs.Dictionary.{types, is_type, the_table}
 use Rattle.dictionary.specs.Laws.Types.{of_type}
 
 -- what the default knows, of the keys from the last arm up to the first
@@ -40,3 +40,8 @@ below (suc n) = n ∷ below n
 pub past : (n t : ℕ) → NoneOf (below n) t → n ≤ t
 past zero t w = omega arith
 past (suc n) t w = omega (arith, past n t w.0, w.1)
+
+-- a number that is a type indexes a table with a row or a bit for each
+pub below_types : {t : ℕ} → is_type t ≡ true → t < 10
+unfolding is_type the_table
+below_types {t} e = ltb-true t types e

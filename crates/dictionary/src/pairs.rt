@@ -20,6 +20,7 @@ const SUPERTYPES: [u16; TYPES as usize] = [
 
 // A number is a subtype of itself, whether or not it is a type. The table has that of types too, but to tell it first is
 // quicker.
+#[tactic(auto, using(crate::proofs::Arms::below_types))]
 pub fn subtype(a: u32, b: u32) -> bool
     ensures { result ≡ spec.subtype a b }
 {

@@ -1,10 +1,10 @@
 -- An unsound state is answered as it came. On a sound one the operation is served with the state lent, and the answer is that
+-- of a log that stays, or of one that may change.
 use mathlib.Core.Path.{sym, ◌∙◌}
 use Rattle.session.specs.Step.{step}
 use Rattle.session.specs.Laws.Served.{lent_core, lent_carried}
 use Rattle.chip.proofs.chip_call.Goals as goal
 
--- of a log that stays, or of one that may change.
 pub returns-then-not-is_sound : goal.returns-then-not-is_sound
 unfolding step
 returns-then-not-is_sound c =
@@ -14,25 +14,17 @@ returns-then-not-is_sound c =
 pub returns-then-log_stays : goal.returns-then-log_stays
 unfolding step
 returns-then-log_stays c =
-    let at_state = c in
-    let at_serve = at_state in
-    let at_marks = at_serve in
-    let left = at_marks in
-    let tested = left.is_sound in
-    let a = left.args in
-    rw (← tested.ensures, left.if-not-is_sound.false, c.carried.ensures)
-    (lent_carried a.op _ _ _ a.x _ _ _ _ _ _ _ _ _ _ at_marks.sets_of-sets.ensures at_marks.marks_of-marks.ensures at_serve.serve_lent-r.ensures
-    at_state.state_of-state.ensures (sym c.log_stays.ensures ∙ c.if-log_stays.true))
+    let tested = c.is_sound in
+    let a = c.args in
+    rw (← tested.ensures, c.if-not-is_sound.false, c.carried.ensures)
+    (lent_carried a.op _ _ _ a.x _ _ _ _ _ _ _ _ _ _ c.sets_of-sets.ensures c.marks_of-marks.ensures c.serve_lent-r.ensures
+    c.state_of-state.ensures (sym c.log_stays.ensures ∙ c.if-log_stays.true))
 
 pub returns : goal.returns
 unfolding step
 returns c =
-    let at_state = c in
-    let at_serve = at_state in
-    let at_marks = at_serve in
-    let left = at_marks in
-    let tested = left.is_sound in
-    let a = left.args in
-    rw (← tested.ensures, left.if-not-is_sound.false, c.finished.ensures)
-    (lent_core a.op _ _ _ a.x _ _ _ _ _ _ _ _ _ _ at_marks.sets_of-sets.ensures at_marks.marks_of-marks.ensures at_serve.serve_lent-r.ensures
-    at_state.state_of-state.ensures)
+    let tested = c.is_sound in
+    let a = c.args in
+    rw (← tested.ensures, c.if-not-is_sound.false, c.finished.ensures)
+    (lent_core a.op _ _ _ a.x _ _ _ _ _ _ _ _ _ _ c.sets_of-sets.ensures c.marks_of-marks.ensures c.serve_lent-r.ensures
+    c.state_of-state.ensures)

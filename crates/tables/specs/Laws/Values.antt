@@ -250,7 +250,7 @@ typed_test h e = by_cases (eqb (h % 256) 0) (is_type (type_in h)) refl refl e
     by_cases false false p q e = absurd (false≢true e)
     by_cases false true p q e = (eqb-false (h % 256) 0 p, q)
 
-module _ (t : List ℕ) (all_Typed : AllTyped t) (type h : ℕ) (value : ℕ → ℕ) where
+module _ (t : List ℕ) (all_typed : AllTyped t) (type h : ℕ) (value : ℕ → ℕ) where
   abbrev asked : ℕ → Bool
   asked k = not (flagged h k) || names_right t (attribute_of type k) (value k)
 
@@ -264,7 +264,7 @@ module _ (t : List ℕ) (all_Typed : AllTyped t) (type h : ℕ) (value : ℕ →
     where
       by_cases : (free : Bool) → eqb (header_at t v) 0 ≡ free → (not free && subtype (type_at t v) target) ≡ target_fits t (shape_of type) v
       by_cases false live =
-          let typed = all_Typed v (ap not live) in
+          let typed = all_typed v (ap not live) in
           sym (target_of_shape type (type_at t v) target w typed.1) ∙ ap (has (shape_of type)) (sym (type_bit (header_at t v) typed))
           ∙ ap (λ (b : Bool). b && has (shape_of type) (header_at t v % bits)) (sym (lt-ltb v (count_of Instance) (live_below_lem t Instance v (ap not live))))
       by_cases true free =
@@ -312,7 +312,7 @@ no_fourth h e =
     let small : h < 0x8_0000 = flags_small h e in
     ne_eqb (h / 0x8_0000 % 2) 1 (λ z. omega arith)
 
-module _ (t : List ℕ) (all_Typed : AllTyped t) (h : ℕ) (value : ℕ → ℕ) where
+module _ (t : List ℕ) (all_typed : AllTyped t) (h : ℕ) (value : ℕ → ℕ) where
   abbrev there : Bool
   there = model_fits (live_in t Model) (type_in h) h
 
@@ -332,7 +332,7 @@ module _ (t : List ℕ) (all_Typed : AllTyped t) (h : ℕ) (value : ℕ → ℕ)
   values_parts : all_b values (λ k. sound_value t (attribute_of (type_in h) k) (flagged h k) (value k)) ≡ (all_b values has_its &&
       (all_b values word_fits_lem && reference_fits t (shape_of (type_in h)) h (value 1) (value 2)))
   values_parts =
-      rw (← reference_parts t all_Typed (type_in h) h value, all_both values word_fits_lem (asked t all_Typed (type_in h) h value), all_both values)
+      rw (← reference_parts t all_typed (type_in h) h value, all_both values word_fits_lem (asked t all_typed (type_in h) h value), all_both values)
       (all_same values _ _ (λ k l. value_parts t (attribute_of (type_in h) k) (flagged h k) (value k)))
 
   live_by_parts : live_fits t (live_in t Model) h (value 0) (value 1) (value 2) (value 3) ≡ (sound_header t h && all_b values (λ k. sound_value t (attribute_of (type_in h) k) (flagged h k) (value k)))

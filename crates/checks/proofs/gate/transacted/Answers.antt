@@ -9,19 +9,14 @@ returns-then-not-is_open c = rw (← c.is_open.ensures, c.if-not-is_open.true) c
 pub returns-then-under : goal.returns-then-under
 unfolding first_of
 returns-then-under c =
-    let opened = c in
-    rw (← opened.is_open.ensures, opened.if-not-is_open.false, ← c.under.ensures, c.if-under.true) c.on-then-under.ensures
+    rw (← c.is_open.ensures, c.if-not-is_open.false, ← c.under.ensures, c.if-under.true) c.on-then-under.ensures
 
 pub returns-then-under-2 : goal.returns-then-under-2
 unfolding first_of
 returns-then-under-2 c =
-    let live = c in
-    let opened = live in
-    rw (← opened.is_open.ensures, opened.if-not-is_open.false, ← live.under.ensures, live.if-under.false, ← c.under-2.ensures, c.if-under-2.true) c.on-then-under-2.ensures
+    rw (← c.is_open.ensures, c.if-not-is_open.false, ← c.under.ensures, c.if-under.false, ← c.under-2.ensures, c.if-under-2.true) c.on-then-under-2.ensures
 
 pub returns : goal.returns
 unfolding first_of
 returns c =
-    let live = c in
-    let opened = live in
-    rw (← opened.is_open.ensures, opened.if-not-is_open.false, ← live.under.ensures, live.if-under.false, ← c.under-2.ensures, c.if-under-2.false)
+    rw (← c.is_open.ensures, c.if-not-is_open.false, ← c.under.ensures, c.if-under.false, ← c.under-2.ensures, c.if-under-2.false)

@@ -15,25 +15,17 @@ returns-then-not-t-clause-turn c =
 pub returns-then-log_stays-clause-turn : goal.returns-then-log_stays-clause-turn
 unfolding turn_of
 returns-then-log_stays-clause-turn c =
-    let at_state = c in
-    let at_serve = at_state in
-    let at_marks = at_serve in
-    let left = at_marks in
-    let a = left.args in
-    rw (not-false a.t.sound left.if-not-t.false, c.turn_by-then-log_stays.ensures, c.carried.ensures)
+    let a = c.args in
+    rw (not-false a.t.sound c.if-not-t.false, c.turn_by-then-log_stays.ensures, c.carried.ensures)
     (ap (turned_by true)
-    (lent_carried a.o.op _ _ _ a.t.session _ _ _ _ _ _ _ _ _ _ at_marks.sets_of-sets.ensures at_marks.marks_of-marks.ensures at_serve.serve_lent-r.ensures
-    at_state.state_of-state.ensures (sym c.log_stays.ensures ∙ c.if-log_stays.true)))
+    (lent_carried a.o.op _ _ _ a.t.session _ _ _ _ _ _ _ _ _ _ c.sets_of-sets.ensures c.marks_of-marks.ensures c.serve_lent-r.ensures
+    c.state_of-state.ensures (sym c.log_stays.ensures ∙ c.if-log_stays.true)))
 
 pub returns-clause-turn : goal.returns-clause-turn
 unfolding turn_of
 returns-clause-turn c =
-    let at_state = c in
-    let at_serve = at_state in
-    let at_marks = at_serve in
-    let left = at_marks in
-    let a = left.args in
-    rw (not-false a.t.sound left.if-not-t.false, c.turn_by-2.ensures, c.finished.ensures)
+    let a = c.args in
+    rw (not-false a.t.sound c.if-not-t.false, c.turn_by-2.ensures, c.finished.ensures)
     (ap (turned_by true)
-    (lent_core a.o.op _ _ _ a.t.session _ _ _ _ _ _ _ _ _ _ at_marks.sets_of-sets.ensures at_marks.marks_of-marks.ensures at_serve.serve_lent-r.ensures
-    at_state.state_of-state.ensures))
+    (lent_core a.o.op _ _ _ a.t.session _ _ _ _ _ _ _ _ _ _ c.sets_of-sets.ensures c.marks_of-marks.ensures c.serve_lent-r.ensures
+    c.state_of-state.ensures))

@@ -1,9 +1,9 @@
 -- `subtype` meets its contract: the table's rows are those that the relation by parents gives, and one computed test of
+-- every pair of types says that bit b of row a is the relation's answer.
 use mathlib.Core.Path.{◌≡◌, refl, sym, ◌∙◌, ap}
 use mathlib.Core.Bool.{Bool, true}
 use mathlib.Core.List.{List, [], ◌∷◌, ◌++◌}
 use Prim.Native.Nat.{ℕ, zero, suc, ◌<◌, ◌/◌, ◌%◌, ◌^◌}
-use native.Mathlib.Omega.{arith}
 use lib.Dec.{eqb}
 use lib.ListN.{get_or}
 use borrow.Author.Tests.{ltb-true}
@@ -16,7 +16,6 @@ use Rattle.dictionary.proofs.Laws.Subtypes.{subtype_same, no_type_below, no_type
 use Rattle.dictionary.proofs.pairs.subtype.Goals as goal
 use Rattle.dictionary.proofs.pairs.subtype.Goals.{else-is_type-via-then-is_type+else-is_type-2, else-is_type-via-else-is_type}
 
--- every pair of types says that bit b of row a is the relation's answer.
 -- the rows of the types below n, as the relation gives them
 unfoldable rows_below : ℕ → List ℕ
 rows_below zero = []
@@ -35,18 +34,6 @@ pub returns-then-a-b : goal.returns-then-a-b
 returns-then-a-b c =
     let b = c.args.b in
     sym (ap (λ (x : ℕ). spec.subtype x b) c.if-a-b.true ∙ subtype_same b)
-
-pub bounds-a : goal.bounds-a
-unfolding the_table
-bounds-a c = below c.args.a (sym c.is_type.ensures ∙ c.if-is_type.true)
-
-pub overflow_cast-result-then-is_type-2 : goal.overflow_cast-result-then-is_type-2
-unfolding the_table
-overflow_cast-result-then-is_type-2 c = omega (arith, below c.args.b (sym c.is_type-then-is_type.ensures ∙ c.if-is_type-2.true))
-
-pub overflow_shr-result : goal.overflow_shr-result
-unfolding the_table
-overflow_shr-result c = omega (arith, below c.args.b (sym c.is_type-then-is_type.ensures ∙ c.if-is_type-2.true))
 
 pub returns-then-is_type-2 : goal.returns-then-is_type-2
 unfolding rows_below all_b mask_below spec.subtype the_table

@@ -11,7 +11,5 @@ returns-then-not-is_sound c =
 pub returns : goal.returns
 unfolding step
 returns c =
-    let at_core = c in
-    let left = at_core in
-    let tested = left.is_sound in
-    rw (← tested.ensures, left.if-not-is_sound.false) at_core.core.ensures
+    let tested = c.is_sound in
+    rw (← tested.ensures, c.if-not-is_sound.false) c.core.ensures

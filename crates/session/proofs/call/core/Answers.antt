@@ -5,13 +5,11 @@ use Rattle.session.proofs.call.core.Goals as goal
 
 pub returns-then-log_stays : goal.returns-then-log_stays
 returns-then-log_stays c =
-    let at_serve = c in
-    let a = at_serve.args in
+    let a = c.args in
     rw c.carried.ensures
-    (served_carried a.op _ _ _ a.x _ _ _ _ _ at_serve.serve-r.ensures (sym c.log_stays.ensures ∙ c.if-log_stays.true))
+    (served_carried a.op _ _ _ a.x _ _ _ _ _ c.serve-r.ensures (sym c.log_stays.ensures ∙ c.if-log_stays.true))
 
 pub returns : goal.returns
 returns c =
-    let at_serve = c in
-    let a = at_serve.args in
-    rw c.finished.ensures (served_core a.op _ _ _ a.x _ _ _ _ _ at_serve.serve-r.ensures)
+    let a = c.args in
+    rw c.finished.ensures (served_core a.op _ _ _ a.x _ _ _ _ _ c.serve-r.ensures)

@@ -5,18 +5,15 @@ use Rattle.session.proofs.readers.read_only_access.Goals as goal
 pub returns : goal.returns
 unfolding first_of
 returns c =
-    let said = c in
-    let asked = said in
-    let sets = asked in
     rw (
       c.unless.ensures,
       c.moved.ensures,
       c.with_access.ensures,
-      said.with.ensures,
-      asked.in_reach.ensures,
-      asked.first-2.ensures,
-      asked.first.ensures,
-      sets.has-2.ensures,
-      sets.has.ensures,
-      sets.label_at.ensures,
+      c.with.ensures,
+      c.in_reach.ensures,
+      c.first-2.ensures,
+      c.first.ensures,
+      c.has-2.ensures,
+      c.has.ensures,
+      c.label_at.ensures,
     )

@@ -17,15 +17,13 @@ loop-m-init c = (omega arith, refl)
 
 pub with_seen-set-requires : goal.with_seen-set-requires
 with_seen-set-requires c =
-    let start = c in
-    let w = start.args.w.now in
+    let w = c.args.w.now in
     let m = c.loop-m.m in
     subst (λ (label : ℕ). formed Model label ≡ true) (model_label w m c.loop-m-test.true)
-    (all_at (count_of Model) (λ i. formed Model (word_of w Model i 0)) start.requires.1 m c.loop-m-test.true)
+    (all_at (count_of Model) (λ i. formed Model (word_of w Model i 0)) c.requires.1 m c.loop-m-test.true)
 
 pub loop-m-preserved : goal.loop-m-preserved
 unfolding set_of
 loop-m-preserved c =
-    let turn = c in
-    let label = model_label turn.args.w.now turn.loop-m.m c.loop-m-test.true in
-    (omega arith, rw (add-one, c.with_seen-set.ensures, turn.loop-m.invariant.1, label))
+    let label = model_label c.args.w.now c.loop-m.m c.loop-m-test.true in
+    (omega arith, rw (add-one, c.with_seen-set.ensures, c.loop-m.invariant.1, label))

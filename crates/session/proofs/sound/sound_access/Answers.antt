@@ -17,6 +17,5 @@ returns-then-s c =
 
 pub returns : goal.returns
 returns c =
-    let gathered = c in
-    let a = gathered.args in
-    rw gathered.in_open-open.ensures (access_by_sets a.w.now a.s (search rules) (search rules))
+    let a = c.args in
+    rw c.in_open-open.ensures (access_by_sets a.w.now a.s (search rules) (search rules))

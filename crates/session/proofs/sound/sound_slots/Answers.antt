@@ -15,41 +15,37 @@ loop-i-init c = (omega arith, c.requires, refl)
 
 pub returns-then-not-sound_event : goal.returns-then-not-sound_event
 returns-then-not-sound_event c =
-    let at_loop = c in
-    let a = at_loop.args in
-    let i = at_loop.loop-i.i in
+    let a = c.args in
+    let i = c.loop-i.i in
     rw (by_slots a.count a.events (search rules))
     (sym (all_stop slots (slot_of a.count a.events) i (omega arith)
     (used_slot a.count i (get_or a.events i blank_event) (omega arith) ∙ sym c.sound_event.ensures ∙ c.if-not-sound_event.true)))
 
 pub loop-i-preserved : goal.loop-i-preserved
 loop-i-preserved c =
-    let at_loop = c in
-    let a = at_loop.args in
-    let i = at_loop.loop-i.i in (
+    let a = c.args in
+    let i = c.loop-i.i in (
       omega arith,
-      at_loop.loop-i.invariant.1,
-      all_more (slot_of a.count a.events) i at_loop.loop-i.invariant.2
+      c.loop-i.invariant.1,
+      all_more (slot_of a.count a.events) i c.loop-i.invariant.2
           (used_slot a.count i (get_or a.events i blank_event) (omega arith) ∙ sym c.sound_event.ensures ∙ c.if-not-sound_event.false),
     )
 
 pub returns-then-not-is_blank : goal.returns-then-not-is_blank
 returns-then-not-is_blank c =
-    let at_loop = c in
-    let a = at_loop.args in
-    let i = at_loop.loop-i-2.i in
+    let a = c.args in
+    let i = c.loop-i-2.i in
     rw (by_slots a.count a.events (search rules))
     (sym (all_stop slots (slot_of a.count a.events) i (omega arith)
     (unused_slot a.count i (get_or a.events i blank_event) (omega arith) ∙ sym c.is_blank.ensures ∙ c.if-not-is_blank.true)))
 
 pub loop-i-2-preserved : goal.loop-i-2-preserved
 loop-i-2-preserved c =
-    let at_loop = c in
-    let a = at_loop.args in
-    let i = at_loop.loop-i-2.i in (
+    let a = c.args in
+    let i = c.loop-i-2.i in (
       omega arith,
       omega arith,
-      all_more (slot_of a.count a.events) i at_loop.loop-i-2.invariant.2
+      all_more (slot_of a.count a.events) i c.loop-i-2.invariant.2
           (unused_slot a.count i (get_or a.events i blank_event) (omega arith) ∙ sym c.is_blank.ensures ∙ c.if-not-is_blank.false),
     )
 

@@ -1,4 +1,5 @@
 -- Every slot passed is sound: those with events in the first loop, the blank ones in the second. The measure is the slots
+-- left.
 use mathlib.Core.Path.{◌≡◌}
 use mathlib.Core.Bool.{Bool, true}
 use mathlib.Core.List.{List}
@@ -10,7 +11,6 @@ use Rattle.state.specs.States.{slots, blank_event}
 use Rattle.session.specs.Sound.{sound_slot}
 use Rattle.session.proofs.sound.sound_slots.Given as goal
 
--- left.
 abbrev pub slot_of : ℕ → List Event → ℕ → Bool
 slot_of count events j = sound_slot count j (get_or events j blank_event)
 

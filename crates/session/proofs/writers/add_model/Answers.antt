@@ -5,8 +5,6 @@ use Rattle.session.proofs.writers.add_model.Goals as goal
 pub returns : goal.returns
 unfolding first_of
 returns c =
-    let checks = c in
-    let words = checks in
     rw (c.unless.ensures, c.regrouped.ensures, c.with.ensures, c.set_at.ensures)
-    (rw (checks.in_reach-2.ensures, checks.in_reach.ensures, checks.first.ensures, checks.schemas_differ.ensures)
-    (rw (words.label_at-model.ensures, words.label_at-it.ensures)))
+    (rw (c.in_reach-2.ensures, c.in_reach.ensures, c.first.ensures, c.schemas_differ.ensures)
+    (rw (c.label_at-model.ensures, c.label_at-it.ensures)))

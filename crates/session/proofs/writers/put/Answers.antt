@@ -36,23 +36,17 @@ module _ (i k v : ℕ) (s : State) (w : List ℕ) where
 pub returns-then-refusal-ne-DONE : goal.returns-then-refusal-ne-DONE
 unfolding first_of
 returns-then-refusal-ne-DONE c =
-    let at_writable = c in
-    let at_model = at_writable in
-    let a = at_model.args in
-    let asked : at_writable.writable-refusal.result ≡ first_of (first a.i a.k a.v a.s a.w.now) =
-    rw (at_writable.writable-refusal.ensures, at_model.model_in-m.ensures, at_model.header_at-it.ensures) in
+    let a = c.args in
+    let asked : c.writable-refusal.result ≡ first_of (first a.i a.k a.v a.s a.w.now) =
+    rw (c.writable-refusal.ensures, c.model_in-m.ensures, c.header_at-it.ensures) in
     rw c.refused.ensures (sym (stops a.i a.k a.v a.s a.w.now _ asked c.if-refusal-ne-DONE.true))
 
 pub returns : goal.returns
 unfolding first_of
 returns c =
-    let at_putting = c in
-    let at_type = at_putting in
-    let at_writable = at_type in
-    let at_model = at_writable in
-    let a = at_model.args in
-    let asked : at_writable.writable-refusal.result ≡ first_of (first a.i a.k a.v a.s a.w.now) =
-    rw (at_writable.writable-refusal.ensures, at_model.model_in-m.ensures, at_model.header_at-it.ensures) in
-    rw (c.unless.ensures, c.changed.ensures, at_putting.putting.ensures, at_putting.attribute.ensures)
-    (rw (at_type.type_in.ensures, at_model.model_in-m.ensures, at_model.header_at-it.ensures)
-    (sym (goes_on a.i a.k a.v a.s a.w.now _ asked at_type.if-refusal-ne-DONE.false)))
+    let a = c.args in
+    let asked : c.writable-refusal.result ≡ first_of (first a.i a.k a.v a.s a.w.now) =
+    rw (c.writable-refusal.ensures, c.model_in-m.ensures, c.header_at-it.ensures) in
+    rw (c.unless.ensures, c.changed.ensures, c.putting.ensures, c.attribute.ensures)
+    (rw (c.type_in.ensures, c.model_in-m.ensures, c.header_at-it.ensures)
+    (sym (goes_on a.i a.k a.v a.s a.w.now _ asked c.if-refusal-ne-DONE.false)))

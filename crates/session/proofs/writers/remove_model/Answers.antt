@@ -5,8 +5,6 @@ use Rattle.session.proofs.writers.remove_model.Goals as goal
 pub returns : goal.returns
 unfolding first_of
 returns c =
-    let checks = c in
-    let words = checks in
     rw (c.unless.ensures, c.regrouped.ensures, c.without.ensures)
-    (rw (checks.in_reach.ensures, checks.first-2.ensures, checks.first.ensures, checks.has.ensures)
-    (rw (checks.missing.ensures, words.label_at-2.ensures, words.label_at.ensures, words.set_at-set.ensures)))
+    (rw (c.in_reach.ensures, c.first-2.ensures, c.first.ensures, c.has.ensures)
+    (rw (c.missing.ensures, c.label_at-2.ensures, c.label_at.ensures, c.set_at-set.ensures)))

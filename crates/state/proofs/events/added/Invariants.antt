@@ -1,10 +1,10 @@
 -- Below sixteen the event goes to the next slot. Else the slots passed hold the events one slot on, and the last one has
+-- the new event from the start; the measure is the slots left.
 use Prim.Native.Nat.{◌≤◌, ◌-◌}
 use mathlib.Core.Path.{◌≡◌}
 use Rattle.state.specs.Quick.Events.{moved_on}
 use Rattle.state.proofs.events.added.Given as goal
 
--- the new event from the start; the measure is the slots left.
 abbrev pub invariant-loop-i : goal.invariant-loop-i
 invariant-loop-i l = (l.i ≤ 15) × (l.events ≡ moved_on l.i l.before l.initial.events)
 

@@ -13,9 +13,8 @@ use Rattle.tables.proofs.deletions.remove_model.Goals as goal
 
 pub returns : goal.returns
 returns c =
-    let back = c in
-    let a = back.args in
-    let swept_so = back.sweep.ensures ∙ ap (λ (g : Going). swept a.t.now (goes g) (count_of Instance))
-    back.those_of-g.ensures ∙ swept_those a.t.now a.m in
+    let a = c.args in
+    let swept_so = c.sweep.ensures ∙ ap (λ (g : Going). swept a.t.now (goes g) (count_of Instance))
+    c.those_of-g.ensures ∙ swept_those a.t.now a.m in
     let left_so = c.ungroup.ensures ∙ ap (λ (l : List ℕ). ungrouped l a.m (count_of SchemaInstance)) swept_so in
     c.clear.ensures ∙ ap (λ (l : List ℕ). without_entry l Model a.m) left_so

@@ -1,4 +1,5 @@
 -- All labels passed are free or well formed, with new names, in their chains, and the live ones are in the sets; the measure is the entries left.
+-- Along a chain, all from the one met on have other names; the measure is the link, which goes down.
 use mathlib.Core.Path.{◌≡◌}
 use Prim.Native.Nat.{◌-◌, ◌≤◌}
 use Rattle.words.specs.Layout.{stride_of, count_of, place_of}
@@ -6,7 +7,6 @@ use Rattle.tables.specs.Laws.Names.{Walked}
 use Rattle.tables.specs.Laws.Labels.{Passed}
 use Rattle.tables.proofs.labels.test_labels.Given as goal
 
--- Along a chain, all from the one met on have other names; the measure is the link, which goes down.
 abbrev pub invariant-loop-met : goal.invariant-loop-met
 invariant-loop-met l = Walked l.t l.kind l.i l.met
 

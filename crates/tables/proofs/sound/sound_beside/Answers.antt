@@ -8,14 +8,12 @@ returns-then-not-sound_cursors c = sym (cursors_unsound c.args.kept.now (sym c.s
 
 pub sound_instances-requires : goal.sound_instances-requires
 sound_instances-requires c =
-    let begun = c in
-    let a = begun.args in
-    (begun.requires.3 ∙ live_alike a.working.now a.kept.now (sym c.same_entries.ensures ∙ c.if-same_entries.true), begun.requires.1)
+    let a = c.args in
+    (c.requires.3 ∙ live_alike a.working.now a.kept.now (sym c.same_entries.ensures ∙ c.if-same_entries.true), c.requires.1)
 
 pub returns-then-same_entries : goal.returns-then-same_entries
 returns-then-same_entries c =
-    let begun = c in
-    let a = begun.args in
-    c.sound_instances.ensures ∙ sound_by_instances a.kept.now begun.requires.1
+    let a = c.args in
+    c.sound_instances.ensures ∙ sound_by_instances a.kept.now c.requires.1
     (sym c.sound_cursors.ensures ∙ c.if-not-sound_cursors.false)
-    (sym (entries_alike a.working.now a.kept.now (sym c.same_entries.ensures ∙ c.if-same_entries.true)) ∙ begun.requires.2)
+    (sym (entries_alike a.working.now a.kept.now (sym c.same_entries.ensures ∙ c.if-same_entries.true)) ∙ c.requires.2)

@@ -28,6 +28,5 @@ returns c =
     let cursors : sound_cursors c.args.t.now ≡ true = sym c.sound_cursors.ensures ∙ c.if-not-sound_cursors.false in
     let entries : (let a = c.args in
     (sound_entries a.t.now ≡ true) × (c.in-Sound.live ≡ live_in a.t.now Model)) = sound_told _ _ _ (sym c.in-Sound.is ∙ c.test_entries.ensures) in
-    let there = c in
-    let a = there.args in
-    c.sound_instances.ensures ∙ sound_by_instances a.t.now (long) (cursors) (entries).0
+    let a = c.args in
+    c.sound_instances.ensures ∙ sound_by_instances a.t.now long cursors entries.0

@@ -12,14 +12,12 @@ pub returns-then-is_blank : goal.returns-then-is_blank
 returns-then-is_blank c =
     let blank : is_blank c.args.t.now ≡ true = sym c.is_blank.ensures ∙ c.if-is_blank.true in
     let a = c.args in
-    rw (blank_entries a.t.now (blank)) (ap Sound (c.nobody.ensures ∙ sym (blank_live a.t.now (blank))))
+    rw (blank_entries a.t.now blank) (ap Sound (c.nobody.ensures ∙ sym (blank_live a.t.now blank)))
 
 pub returns-in_default-test_labels : goal.returns-in_default-test_labels
 returns-in_default-test_labels c =
     let models : (let a = c.args in
     (sound_labels a.t.now Model ≡ true) × (c.in-Sound.live ≡ live_in a.t.now Model)) = sound_told _ _ _ (sym c.in-Sound.is ∙ c.test_labels.ensures) in
-    let back = c in
-    let a = back.args in
-    let there = c in
-    rw (entries_by_labels, (models).0)
+    let a = c.args in
+    rw (entries_by_labels, models.0)
     (rw (unsound_told (sound_labels a.t.now SchemaInstance) (live_in a.t.now SchemaInstance) (sym c.in_default-test_labels.is ∙ c.test_labels-2.ensures)))

@@ -10,9 +10,8 @@ use Rattle.words.proofs.copies.copy.Goals as goal
 pub returns-then-n-ge-WORDS : goal.returns-then-n-ge-WORDS
 returns-then-n-ge-WORDS c =
     let a = c.args in
-    let there = c in
     c.given.ensures ∙ ap (λ (l : List ℕ). take words l ++ drop words a.to.now) c.taken.ensures
-    ∙ copied_whole a.from.now a.to.now (omega (arith, there.least-n.ensures, there.if-n-ge-WORDS.true)) (omega (arith, there.least-n.ensures, there.if-n-ge-WORDS.true))
+    ∙ copied_whole a.from.now a.to.now (omega (arith, c.least-n.ensures, c.if-n-ge-WORDS.true)) (omega (arith, c.least-n.ensures, c.if-n-ge-WORDS.true))
 
 pub loop-i-preserved : goal.loop-i-preserved
 loop-i-preserved c =

@@ -16,9 +16,8 @@ loop-i-init c = (omega arith, refl)
 pub returns-then-is_named : goal.returns-then-is_named
 returns-then-is_named c =
     let a = c.args in
-    let found = c in
-    sym (any_stop (count_of a.kind) (λ (j : ℕ). is_named (word_of a.t.now a.kind j 0) a.repository a.name) found.loop-i.i
-    (omega (arith, found.present-n.ensures.1.within))
+    sym (any_stop (count_of a.kind) (λ (j : ℕ). is_named (word_of a.t.now a.kind j 0) a.repository a.name) c.loop-i.i
+    (omega (arith, c.present-n.ensures.1.within))
     (ap (λ (w : ℕ). is_named w a.repository a.name) (sym c.first_word.ensures) ∙ sym c.is_named.ensures ∙ c.if-is_named.true))
 
 pub loop-i-preserved : goal.loop-i-preserved
