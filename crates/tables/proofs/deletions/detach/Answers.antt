@@ -15,25 +15,19 @@ returns-then-k-eq-VALUES c =
 
 pub returns-then-goes : goal.returns-then-goes
 returns-then-goes c =
-    let pointer : c.pointer_in-k.result ≡ pointer_in (header_at c.args.t.now c.args.i) = c.pointer_in-k.ensures ∙ ap pointer_in c.header_at.ensures in
-    let set : (let a = c.args in
-    Pointer a.t.now (goes a.g) a.i c.pointer_in-k.result) = let a = c.args in
-    rw pointer (the_pointer a.t.now (goes a.g) a.i (λ e. c.if-k-eq-VALUES.false (pointer ∙ e))) in
-    let asked : (let a = c.args in
-    goes a.g (value_at a.t.now a.i c.pointer_in-k.result) ≡ c.goes.result) = ap (goes c.args.g) (sym c.value_at.ensures) ∙ sym c.goes.ensures in
     let a = c.args in
     let the_pointer_in = c.pointer_in-k in
+    let pointer : c.pointer_in-k.result ≡ pointer_in (header_at c.args.t.now c.args.i) = c.pointer_in-k.ensures ∙ ap pointer_in c.header_at.ensures in
+    let set : (Pointer a.t.now (goes a.g) a.i c.pointer_in-k.result) = rw pointer (the_pointer a.t.now (goes a.g) a.i (λ e. c.if-k-eq-VALUES.false (pointer ∙ e))) in
+    let asked : (goes a.g (value_at a.t.now a.i c.pointer_in-k.result) ≡ c.goes.result) = ap (goes c.args.g) (sym c.value_at.ensures) ∙ sym c.goes.ensures in
     c.unset.ensures ∙ sym
     (pointer_goes a.t.now (goes a.g) a.i the_pointer_in.result set (asked ∙ c.if-goes.true))
 
 pub returns-else-goes : goal.returns-else-goes
 returns-else-goes c =
-    let pointer : c.pointer_in-k.result ≡ pointer_in (header_at c.args.t.now c.args.i) = c.pointer_in-k.ensures ∙ ap pointer_in c.header_at.ensures in
-    let set : (let a = c.args in
-    Pointer a.t.now (goes a.g) a.i c.pointer_in-k.result) = let a = c.args in
-    rw pointer (the_pointer a.t.now (goes a.g) a.i (λ e. c.if-k-eq-VALUES.false (pointer ∙ e))) in
-    let asked : (let a = c.args in
-    goes a.g (value_at a.t.now a.i c.pointer_in-k.result) ≡ c.goes.result) = ap (goes c.args.g) (sym c.value_at.ensures) ∙ sym c.goes.ensures in
     let a = c.args in
     let the_pointer_in = c.pointer_in-k in
+    let pointer : c.pointer_in-k.result ≡ pointer_in (header_at c.args.t.now c.args.i) = c.pointer_in-k.ensures ∙ ap pointer_in c.header_at.ensures in
+    let set : (Pointer a.t.now (goes a.g) a.i c.pointer_in-k.result) = rw pointer (the_pointer a.t.now (goes a.g) a.i (λ e. c.if-k-eq-VALUES.false (pointer ∙ e))) in
+    let asked : (goes a.g (value_at a.t.now a.i c.pointer_in-k.result) ≡ c.goes.result) = ap (goes c.args.g) (sym c.value_at.ensures) ∙ sym c.goes.ensures in
     sym (pointer_stays a.t.now (goes a.g) a.i the_pointer_in.result set (asked ∙ c.if-goes.false))

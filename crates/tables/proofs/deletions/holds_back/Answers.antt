@@ -9,15 +9,15 @@ use Rattle.tables.proofs.deletions.holds_back.Goals as goal
 
 pub returns-then-k-eq-VALUES : goal.returns-then-k-eq-VALUES
 returns-then-k-eq-VALUES c =
-    let pointer : (let a = c.args in c.pointer_in-k.result ≡ pointer_in (header_at a.t.now a.i)) = c.pointer_in-k.ensures ∙ ap pointer_in c.first_word-header.ensures in
     let a = c.args in
+    let pointer : (c.pointer_in-k.result ≡ pointer_in (header_at a.t.now a.i)) = c.pointer_in-k.ensures ∙ ap pointer_in c.first_word-header.ensures in
     sym (bare_holds a.t.now (goes_with a.t.now a.kind a.n) a.«rw» a.i (sym pointer ∙ c.if-k-eq-VALUES.true))
 
 pub returns : goal.returns
 returns c =
-    let access : (let a = c.args in has a.«rw» (model_at a.t.now a.i) ≡ c.has.result) = sym (rw (c.model_in.ensures, c.first_word-header.ensures) at c.has.ensures) in
-    let pointer : (let a = c.args in c.pointer_in-k.result ≡ pointer_in (header_at a.t.now a.i)) = c.pointer_in-k.ensures ∙ ap pointer_in c.first_word-header.ensures in
     let a = c.args in
+    let access : (has a.«rw» (model_at a.t.now a.i) ≡ c.has.result) = sym (rw (c.model_in.ensures, c.first_word-header.ensures) at c.has.ensures) in
+    let pointer : (c.pointer_in-k.result ≡ pointer_in (header_at a.t.now a.i)) = c.pointer_in-k.ensures ∙ ap pointer_in c.first_word-header.ensures in
     let goes = goes_with a.t.now a.kind a.n in
     let k = pointer in
     let stays = sym c.goes_with.ensures ∙ c.if-goes_with.false in

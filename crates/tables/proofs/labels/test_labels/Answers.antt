@@ -20,93 +20,63 @@ loop-i-init c =
 
 pub returns-then-not-is_label : goal.returns-then-not-is_label
 returns-then-not-is_label c =
-    let below : (let a = c.args in
-    c.loop-i.i < count_of a.kind) = omega arith in
-    let here : (let a = c.args in
-    label_at a.t.now a.kind c.loop-i.i ≡ get_or a.t.now c.loop-i.at 0) = let a = c.args in
-    first_word a.t.now a.kind c.loop-i.i below ∙ ap (λ (x : ℕ). get_or a.t.now x 0) (sym c.loop-i.invariant.3) in
     let a = c.args in
     let the_loop = c.loop-i in
+    let below : c.loop-i.i < count_of a.kind = omega arith in
+    let here : label_at a.t.now a.kind c.loop-i.i ≡ get_or a.t.now c.loop-i.at 0 =
+    first_word a.t.now a.kind c.loop-i.i below ∙ ap (λ (x : ℕ). get_or a.t.now x 0) (sym c.loop-i.invariant.3) in
     no_label a.t.now a.kind the_loop.i below (rw here (ne_eqb _ _ c.if-label-ne0.true))
     (rw here (sym c.is_label.ensures ∙ c.if-not-is_label.true))
 
 pub loop-met-init : goal.loop-met-init
 loop-met-init c =
-    let below : (let a = c.args in
-    c.loop-i.i < count_of a.kind) = omega arith in
-    let here : (let a = c.args in
-    label_at a.t.now a.kind c.loop-i.i ≡ get_or a.t.now c.loop-i.at 0) = let a = c.args in
-    first_word a.t.now a.kind c.loop-i.i below ∙ ap (λ (x : ℕ). get_or a.t.now x 0) (sym c.loop-i.invariant.3) in
     let a = c.args in
     let the_loop = c.loop-i in
+    let below : c.loop-i.i < count_of a.kind = omega arith in
+    let here : label_at a.t.now a.kind c.loop-i.i ≡ get_or a.t.now c.loop-i.at 0 =
+    first_word a.t.now a.kind c.loop-i.i below ∙ ap (λ (x : ℕ). get_or a.t.now x 0) (sym c.loop-i.invariant.3) in
     walk_start a.t.now a.kind the_loop.i _ (rw (here, ← c.chain-b.ensures) (the_loop.invariant.4.chained.heads c.chain-b.result (omega (arith, c.chain-b.ensures))))
 
 pub returns-then-same_name : goal.returns-then-same_name
 returns-then-same_name c =
-    let below : (let a = c.args in
-    c.loop-i.i < count_of a.kind) = omega arith in
-    let here : (let a = c.args in
-    label_at a.t.now a.kind c.loop-i.i ≡ get_or a.t.now c.loop-i.at 0) = let a = c.args in
-    first_word a.t.now a.kind c.loop-i.i below ∙ ap (λ (x : ℕ). get_or a.t.now x 0) (sym c.loop-i.invariant.3) in
-    let met_below : (let c = c in
-    let a = c.args in
-    c.loop-met.met - 1 < count_of a.kind) = omega (arith, c.loop-met.invariant.below, below) in
-    let met_here : (let c = c in
-    let a = c.args in
-    label_at a.t.now a.kind (c.loop-met.met - 1) ≡ get_or a.t.now c.place.result 0) = let c = c in
-    let a = c.args in
-    first_word a.t.now a.kind (c.loop-met.met - 1) met_below ∙ ap (λ (x : ℕ). get_or a.t.now x 0) (sym c.place.ensures) in
-    let tested : (let c = c in
-    let a = c.args in
-    let the_loop = c.loop-i in
-    let the_loop2 = c.loop-met in
-    same_name (label_at a.t.now a.kind the_loop.i) (label_at a.t.now a.kind (the_loop2.met - 1)) ≡ c.same_name.result) = let c = c in
-    rw (here, met_here) (sym c.same_name.ensures) in
     let a = c.args in
     let the_loop = c.loop-i in
     let the_loop2 = c.loop-met in
     let the_loop2_test = c.loop-met-test in
+    let below : c.loop-i.i < count_of a.kind = omega arith in
+    let here : label_at a.t.now a.kind c.loop-i.i ≡ get_or a.t.now c.loop-i.at 0 =
+    first_word a.t.now a.kind c.loop-i.i below ∙ ap (λ (x : ℕ). get_or a.t.now x 0) (sym c.loop-i.invariant.3) in
+    let met_below : c.loop-met.met - 1 < count_of a.kind = omega (arith, c.loop-met.invariant.below, below) in
+    let met_here : (label_at a.t.now a.kind (c.loop-met.met - 1) ≡ get_or a.t.now c.place.result 0) =
+    first_word a.t.now a.kind (c.loop-met.met - 1) met_below ∙ ap (λ (x : ℕ). get_or a.t.now x 0) (sym c.place.ensures) in
+    let tested : (same_name (label_at a.t.now a.kind the_loop.i) (label_at a.t.now a.kind (the_loop2.met - 1)) ≡ c.same_name.result) = rw (here, met_here) (sym c.same_name.ensures) in
     not_new a.t.now a.kind the_loop.i below
     (walk_found a.t.now a.kind the_loop.i the_loop2.met the_loop.before the_loop.invariant.4.chained.links the_loop2.invariant
     the_loop2_test.true (tested ∙ c.if-same_name.true))
 
 pub loop-met-preserved : goal.loop-met-preserved
 loop-met-preserved c =
-    let below : (let a = c.args in
-    c.loop-i.i < count_of a.kind) = omega arith in
-    let here : (let a = c.args in
-    label_at a.t.now a.kind c.loop-i.i ≡ get_or a.t.now c.loop-i.at 0) = let a = c.args in
-    first_word a.t.now a.kind c.loop-i.i below ∙ ap (λ (x : ℕ). get_or a.t.now x 0) (sym c.loop-i.invariant.3) in
-    let met_below : (let c = c in
-    let a = c.args in
-    c.loop-met.met - 1 < count_of a.kind) = omega (arith, c.loop-met.invariant.below, below) in
-    let met_here : (let c = c in
-    let a = c.args in
-    label_at a.t.now a.kind (c.loop-met.met - 1) ≡ get_or a.t.now c.place.result 0) = let c = c in
-    let a = c.args in
-    first_word a.t.now a.kind (c.loop-met.met - 1) met_below ∙ ap (λ (x : ℕ). get_or a.t.now x 0) (sym c.place.ensures) in
-    let tested : (let c = c in
-    let a = c.args in
-    let the_loop = c.loop-i in
-    let the_loop2 = c.loop-met in
-    same_name (label_at a.t.now a.kind the_loop.i) (label_at a.t.now a.kind (the_loop2.met - 1)) ≡ c.same_name.result) = let c = c in
-    rw (here, met_here) (sym c.same_name.ensures) in
     let a = c.args in
     let the_loop = c.loop-i in
     let the_loop2 = c.loop-met in
     let the_loop2_test = c.loop-met-test in
+    let below : c.loop-i.i < count_of a.kind = omega arith in
+    let here : label_at a.t.now a.kind c.loop-i.i ≡ get_or a.t.now c.loop-i.at 0 =
+    first_word a.t.now a.kind c.loop-i.i below ∙ ap (λ (x : ℕ). get_or a.t.now x 0) (sym c.loop-i.invariant.3) in
+    let met_below : c.loop-met.met - 1 < count_of a.kind = omega (arith, c.loop-met.invariant.below, below) in
+    let met_here : (label_at a.t.now a.kind (c.loop-met.met - 1) ≡ get_or a.t.now c.place.result 0) =
+    first_word a.t.now a.kind (c.loop-met.met - 1) met_below ∙ ap (λ (x : ℕ). get_or a.t.now x 0) (sym c.place.ensures) in
+    let tested : (same_name (label_at a.t.now a.kind the_loop.i) (label_at a.t.now a.kind (the_loop2.met - 1)) ≡ c.same_name.result) = rw (here, met_here) (sym c.same_name.ensures) in
     walk_next a.t.now a.kind the_loop.i the_loop2.met the_loop.before the_loop.invariant.4.chained.links the_loop2.invariant the_loop2_test.true (tested ∙ c.if-same_name.false)
 
 pub loop-i-preserved : goal.loop-i-preserved
 loop-i-preserved c =
-    let below : (let a = c.args in
-    c.loop-i.i < count_of a.kind) = omega arith in
-    let few : c.loop-i.i < bits = omega (arith, below, c.requires.1) in
-    let here : (let a = c.args in
-    label_at a.t.now a.kind c.loop-i.i ≡ get_or a.t.now c.loop-i.at 0) = let a = c.args in
-    first_word a.t.now a.kind c.loop-i.i below ∙ ap (λ (x : ℕ). get_or a.t.now x 0) (sym c.loop-i.invariant.3) in
     let a = c.args in
-    let the_loop = c.loop-i in (
+    let the_loop = c.loop-i in
+    let below : c.loop-i.i < count_of a.kind = omega arith in
+    let few : c.loop-i.i < bits = omega (arith, below, c.requires.1) in
+    let here : label_at a.t.now a.kind c.loop-i.i ≡ get_or a.t.now c.loop-i.at 0 =
+    first_word a.t.now a.kind c.loop-i.i below ∙ ap (λ (x : ℕ). get_or a.t.now x 0) (sym c.loop-i.invariant.3) in (
       omega arith,
       the_loop.invariant.1,
       the_loop.invariant.2,

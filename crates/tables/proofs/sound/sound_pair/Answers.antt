@@ -37,11 +37,9 @@ returns-then-not-sound_instances c =
 
 pub returns : goal.returns
 returns c =
+    let a = c.args in
     let long : words ≤ length c.args.working.now = leb-true words (length c.args.working.now) (sym c.is_long.ensures ∙ c.if-not-is_long.false) in
     let cursors : sound_cursors c.args.working.now ≡ true = sym c.sound_cursors.ensures ∙ c.if-not-sound_cursors.false in
-    let entries : (let c = c in
-    let a = c.args in
-    (sound_entries a.working.now ≡ true) × (c.in-Sound.live ≡ live_in a.working.now Model)) = sound_told _ _ _ (sym c.in-Sound.is ∙ c.test_entries.ensures) in
-    let a = c.args in
+    let entries : ((sound_entries a.working.now ≡ true) × (c.in-Sound.live ≡ live_in a.working.now Model)) = sound_told _ _ _ (sym c.in-Sound.is ∙ c.test_entries.ensures) in
     let tested = sound_by_instances a.working.now long cursors entries.0 in
     rw (sym tested ∙ sym c.sound_instances.ensures ∙ c.if-not-sound_instances.false) c.sound_beside.ensures

@@ -24,9 +24,8 @@ returns-in_default c =
 
 pub returns : goal.returns
 returns c =
+    let a = c.args in
     let long : words ≤ length c.args.t.now = leb-true words (length c.args.t.now) (sym c.is_long.ensures ∙ c.if-not-is_long.false) in
     let cursors : sound_cursors c.args.t.now ≡ true = sym c.sound_cursors.ensures ∙ c.if-not-sound_cursors.false in
-    let entries : (let a = c.args in
-    (sound_entries a.t.now ≡ true) × (c.in-Sound.live ≡ live_in a.t.now Model)) = sound_told _ _ _ (sym c.in-Sound.is ∙ c.test_entries.ensures) in
-    let a = c.args in
+    let entries : ((sound_entries a.t.now ≡ true) × (c.in-Sound.live ≡ live_in a.t.now Model)) = sound_told _ _ _ (sym c.in-Sound.is ∙ c.test_entries.ensures) in
     c.sound_instances.ensures ∙ sound_by_instances a.t.now long cursors entries.0

@@ -16,8 +16,7 @@ returns-then-is_blank c =
 
 pub returns-in_default-test_labels : goal.returns-in_default-test_labels
 returns-in_default-test_labels c =
-    let models : (let a = c.args in
-    (sound_labels a.t.now Model ≡ true) × (c.in-Sound.live ≡ live_in a.t.now Model)) = sound_told _ _ _ (sym c.in-Sound.is ∙ c.test_labels.ensures) in
     let a = c.args in
+    let models : ((sound_labels a.t.now Model ≡ true) × (c.in-Sound.live ≡ live_in a.t.now Model)) = sound_told _ _ _ (sym c.in-Sound.is ∙ c.test_labels.ensures) in
     rw (entries_by_labels, models.0)
     (rw (unsound_told (sound_labels a.t.now SchemaInstance) (live_in a.t.now SchemaInstance) (sym c.in_default-test_labels.is ∙ c.test_labels-2.ensures)))
