@@ -8,7 +8,7 @@ ghost use Rattle.session.specs.Step.{outcome, core as core_of};
 
 use session::answers::{carried, finished, log_stays};
 use session::call::serve;
-use state::state::{Answer, Session};
+use state::state::{Answer, Order, Session};
 
 pub fn chip_core(
     op: u32,
@@ -21,11 +21,10 @@ pub fn chip_core(
 ) -> Answer
     ensures { outcome result working.new kept.new ≡ core_of op a b c x working.old kept.old }
 {
-    let s = x.state;
-    let r = serve(op, a, b, c, s, working, kept);
-    let state = r.state;
-    if log_stays(r.refusal, state) {
-        return carried(x, r.value, state);
+    let mut state = x.state;
+    let given = serve(Order { op, a, b, c }, &mut state, working, kept);
+    if log_stays(given, state) {
+        return carried(x, given, state);
     }
-    finished(op, x, r.refusal, r.value, state)
+    finished(op, x, given, state)
 }

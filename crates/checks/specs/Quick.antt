@@ -1,2 +1,2 @@
 -- What only the quick code asks for. No promise is about it.
-pub mod Known
+pub mod Asked

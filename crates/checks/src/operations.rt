@@ -2,7 +2,9 @@
 ghost use Rattle.std.specs.Prelude.{◌≡◌, ◌≤◌};
 ghost use Rattle.checks.specs.Operations.{operation_of};
 
-#[derive(Clone, Copy)]
+// Unlisted is a case like the others and no None: it has its row in the definitions (`gate`, `row_of`), and theorems over all
+// operations have it among their cases.
+#[derive(Clone, Copy, Debug, PartialEq, Eq)]
 pub enum Operation {
     Unlisted,
     // Asks that no session is open.
@@ -15,7 +17,7 @@ pub enum Operation {
     Writer(Writer),
 }
 
-#[derive(Clone, Copy)]
+#[derive(Clone, Copy, Debug, PartialEq, Eq)]
 pub enum InSession {
     CloseSession,
     OpenRepository,
@@ -32,7 +34,7 @@ pub enum InSession {
     IsSubtype,
 }
 
-#[derive(Clone, Copy)]
+#[derive(Clone, Copy, Debug, PartialEq, Eq)]
 pub enum Reader {
     ReadOnlyAccess,
     EndAccess,
@@ -40,7 +42,7 @@ pub enum Reader {
     Test,
 }
 
-#[derive(Clone, Copy)]
+#[derive(Clone, Copy, Debug, PartialEq, Eq)]
 pub enum Writer {
     CreateModel,
     DeleteModel,

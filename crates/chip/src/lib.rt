@@ -7,9 +7,8 @@ ghost use Rattle.session.specs.Step.{outcome, step};
 pub mod tray;
 
 use session::answers::{carried, finished, log_stays, unsound};
-use session::call::{is_sound, serve_lent};
-use state::lent::{marks_of, sets_of, state_of};
-use state::state::{Answer, Session};
+use session::call::{is_sound, serve};
+use state::state::{Answer, Order, Session};
 
 // With the state lent, as in a tray: so what serves an operation is one function that both call, and no session is handed
 // over to it.
@@ -27,13 +26,10 @@ pub fn chip_call(
     if !is_sound(x, working, kept) {
         return unsound(x);
     }
-    let before = x.state;
-    let mut sets = sets_of(before);
-    let mut marks = marks_of(before);
-    let r = serve_lent(op, a, b, c, working, kept, &mut sets, &mut marks);
-    let state = state_of(sets, marks);
-    if log_stays(r.refusal, state) {
-        return carried(x, r.value, state);
+    let mut state = x.state;
+    let given = serve(Order { op, a, b, c }, &mut state, working, kept);
+    if log_stays(given, state) {
+        return carried(x, given, state);
     }
-    finished(op, x, r.refusal, r.value, state)
+    finished(op, x, given, state)
 }

@@ -5,35 +5,24 @@ ghost use Rattle.chip.specs.Quick.Turns.{taken_of, closing_of, turn_by, begun_wi
 ghost use Rattle.session.specs.Runs.{chip_of};
 
 use session::answers::{carried, finished, log_stays, unsound};
-use session::call::{is_sound, serve_lent};
-use state::lent::{marks_of, sets_of, state_of};
-use state::refusals::{DONE, SY_ERR, on};
-use state::state::{Answer, Session, answer_of};
-
-// An operation: its number and its arguments.
-#[repr(C)]
-#[derive(Clone, Copy)]
-pub struct Order {
-    pub op: u32,
-    pub a: u32,
-    pub b: u32,
-    pub c: u32,
-}
+use session::call::{is_sound, serve};
+use state::state::{Answer, Order, Session, answer_of};
 
 // What it was answered; the session goes on to the next one.
 #[repr(C)]
-#[derive(Clone, Copy)]
-pub struct Result {
+#[derive(Clone, Copy, Debug, PartialEq, Eq)]
+pub struct Reply {
     pub refusal: u16,
     pub place: u16,
     pub value: u32,
 }
 
-// What goes from order to order: the session, the last result, and whether the tray's state was found sound.
-#[derive(Clone, Copy)]
+// What goes from order to order: the session, the last result, and whether the tray's state was found sound. A flag and no
+// Option: an unsound session goes on too, and comes back as it was handed over.
+#[derive(Clone, Copy, Debug, PartialEq, Eq)]
 pub struct Turn {
     pub session: Session,
-    pub result: Result,
+    pub result: Reply,
     pub sound: bool,
 }
 
@@ -41,10 +30,7 @@ pub struct Turn {
 fn taken(orders: usize, places: usize) -> usize
     ensures { result ≡ taken_of orders places }
 {
-    if orders <= places {
-        return orders;
-    }
-    0
+    if orders <= places { orders } else { 0 }
 }
 
 // The tray's own answer.
@@ -52,9 +38,9 @@ fn closing(orders: usize, places: usize, x: Session) -> Answer
     ensures { result ≡ closing_of orders places x }
 {
     if orders <= places {
-        return answer_of(DONE, 0, x);
+        return answer_of(Ok(0), x);
     }
-    answer_of(on(SY_ERR, 0), 0, x)
+    unsound(x)
 }
 
 // What goes on from an answer: the session, and the rest of it as a result.
@@ -64,7 +50,7 @@ fn turn_by(sound: bool, r: Answer) -> Turn
     let session = r.session;
     Turn {
         session,
-        result: Result {
+        result: Reply {
             refusal: r.refusal,
             place: r.place,
             value: r.value,
@@ -77,7 +63,7 @@ fn turn_by(sound: bool, r: Answer) -> Turn
 fn begun(x: Session, working: &[u64], kept: &[u64]) -> Turn
     ensures { result ≡ begun_with x working.now kept.now }
 {
-    turn_by(is_sound(x, working, kept), answer_of(DONE, 0, x))
+    turn_by(is_sound(x, working, kept), answer_of(Ok(0), x))
 }
 
 // One order, on what the one before it left. That its last argument is a number of 32 bits is said for `chip_tray`, which reads
@@ -90,21 +76,18 @@ fn next_turn(o: Order, t: Turn, working: &mut [u64], kept: &mut [u64]) -> Turn
     if !t.sound {
         return turn_by(false, unsound(x));
     }
-    let before = x.state;
-    let mut sets = sets_of(before);
-    let mut marks = marks_of(before);
-    let r = serve_lent(o.op, o.a, o.b, o.c, working, kept, &mut sets, &mut marks);
-    let state = state_of(sets, marks);
-    if log_stays(r.refusal, state) {
-        return turn_by(true, carried(x, r.value, state));
+    let mut state = x.state;
+    let given = serve(o, &mut state, working, kept);
+    if log_stays(given, state) {
+        return turn_by(true, carried(x, given, state));
     }
-    turn_by(true, finished(o.op, x, r.refusal, r.value, state))
+    turn_by(true, finished(o.op, x, given, state))
 }
 
 // It only moves structs: what branches stands in the functions that it calls.
 pub fn chip_tray(
     orders: &[Order],
-    answers: &mut [Result],
+    answers: &mut [Reply],
     x: Session,
     working: &mut [u64],
     kept: &mut [u64],
@@ -113,11 +96,9 @@ pub fn chip_tray(
 {
     let n = taken(orders.len(), answers.len());
     let mut t = begun(x, working, kept);
-    let mut i: usize = 0;
-    while i < n {
+    for i in 0..n {
         t = next_turn(orders[i], t, working, kept);
         answers[i] = t.result;
-        i += 1;
     }
     closing(orders.len(), answers.len(), t.session)
 }

@@ -8,8 +8,8 @@ ghost use Rattle.chip.specs.Tray.{trayed, tray};
 ghost use Rattle.session.specs.Runs.{chip_of};
 ghost use Rattle.session.specs.Step.{outcome, step};
 
-use chip::tray::{Order, Result};
-use state::state::{Answer, Session};
+use chip::tray::Reply;
+use state::state::{Answer, Order, Session};
 
 #[unsafe(no_mangle)]
 pub extern "C" fn chip_call(
@@ -29,7 +29,7 @@ pub extern "C" fn chip_call(
 #[unsafe(no_mangle)]
 pub extern "C" fn chip_tray(
     orders: &[Order],
-    answers: &mut [Result],
+    answers: &mut [Reply],
     x: Session,
     working: &mut [u64],
     kept: &mut [u64],

@@ -4,3 +4,4 @@ pub mod Subtypes
 pub mod References
 pub mod Shapes
 pub mod Tags
+pub mod Numbers

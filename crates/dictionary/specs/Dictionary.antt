@@ -1,21 +1,19 @@
 -- The dictionary of types. `dictionary` is the page's table, row by row; every other definition is derived from it.
-use Rattle.std.specs.Prelude.{Bool, true, false, List, [], ◌∷◌, ◌++◌, ℕ, zero, suc, ◌-◌, ltb, length, get_or, replicate}
+use Rattle.std.specs.Prelude.{Bool, true, false, List, [], ◌∷◌, ◌++◌, ℕ, zero, suc, ◌-◌, ltb, length, get_or, replicate, Option, None, Some, slice_get}
 use Prim.Native.Char.{code}
 use Prim.Native.String.{String}
 use Prim.Native.String as text
-use Rattle.dictionary.specs.declared.answers.Parent.{Parent}
-use Rattle.dictionary.specs.declared.answers.Parent.TheVariants.{Root, Is}
 use Rattle.dictionary.specs.declared.answers.Attribute.{Attribute}
-use Rattle.dictionary.specs.declared.answers.Attribute.TheVariants.{Lacking, Whole, Reference}
+use Rattle.dictionary.specs.declared.answers.Attribute.TheVariants.{Whole, Reference}
 use Rattle.dictionary.specs.declared.answers.Name.{Name}
 
 pub record Row : Type 0 where
   pub name : String
-  pub parent : Parent
+  pub parent : Option ℕ
   pub schema : ℕ
   pub own : List Attribute
 
-abbrev pub row : String → Parent → ℕ → List Attribute → Row
+abbrev pub row : String → Option ℕ → ℕ → List Attribute → Row
 row n p s o = record { name = n; parent = p; schema = s; own = o }
 
 -- the page's letters for the two kinds of attribute
@@ -28,21 +26,21 @@ R t = Reference t
 -- name, parent, schema, own attributes
 unfoldable pub dictionary : List Row
 dictionary =
-    row "item" Root 1 (I ∷ [])  -- 0: I number
-    ∷ row "part" (Is 0) 1 (I ∷ [])  -- 1: I mass
-    ∷ row "plate" (Is 1) 1 (I ∷ [])  -- 2: I thickness
-    ∷ row "cavity" (Is 1) 1 (R 2 ∷ [])  -- 3: R 2
-    ∷ row "assembly" (Is 0) 1 (R 0 ∷ [])  -- 4: R 0
-    ∷ row "event" Root 1 (I ∷ [])  -- 5: I day
-    ∷ row "shot_count" (Is 5) 1 (R 1 ∷ I ∷ [])  -- 6: R 1, I shots
-    ∷ row "repair" (Is 5) 1 (R 1 ∷ [])  -- 7: R 1
-    ∷ row "reading" Root 2 (I ∷ [])  -- 8: I value
-    ∷ row "wear" (Is 8) 2 (R 8 ∷ [])  -- 9: R 8
+    row "item" None 1 (I ∷ [])  -- 0: I number
+    ∷ row "part" (Some 0) 1 (I ∷ [])  -- 1: I mass
+    ∷ row "plate" (Some 1) 1 (I ∷ [])  -- 2: I thickness
+    ∷ row "cavity" (Some 1) 1 (R 2 ∷ [])  -- 3: R 2
+    ∷ row "assembly" (Some 0) 1 (R 0 ∷ [])  -- 4: R 0
+    ∷ row "event" None 1 (I ∷ [])  -- 5: I day
+    ∷ row "shot_count" (Some 5) 1 (R 1 ∷ I ∷ [])  -- 6: R 1, I shots
+    ∷ row "repair" (Some 5) 1 (R 1 ∷ [])  -- 7: R 1
+    ∷ row "reading" None 2 (I ∷ [])  -- 8: I value
+    ∷ row "wear" (Some 8) 2 (R 8 ∷ [])  -- 9: R 8
     ∷ []
 
 -- what is said of a number that is no type
 abbrev pub blank : Row
-blank = row "" Root 0 []
+blank = row "" None 0 []
 
 unfoldable pub row_of : ℕ → Row
 row_of t = get_or dictionary t blank
@@ -54,7 +52,7 @@ types = length dictionary
 unfoldable pub is_type : ℕ → Bool
 is_type t = ltb t types
 
-unfoldable pub parent_of : ℕ → Parent
+unfoldable pub parent_of : ℕ → Option ℕ
 parent_of t = (row_of t).parent
 
 unfoldable pub schema_of : ℕ → ℕ
@@ -79,9 +77,9 @@ unfoldable pub name_of : ℕ → Name
 name_of t = padded (bytes_of (row_of t).name)
 
 -- what g says of the parent, or e where there is none
-abbrev pub above : {A : Type 0} → A → (ℕ → A) → Parent → A
-above e g Root = e
-above e g (Is p) = g p
+abbrev pub above : {A : Type 0} → A → (ℕ → A) → Option ℕ → A
+above e g None = e
+above e g (Some p) = g p
 
 -- From a type up to its root: f makes the answer for a type from the type and the answer for its parent, e where there
 -- is none. A parent's number is lower, so a type's number bounds the steps (`climb_step` in `Laws/Types.antt`).
@@ -96,19 +94,18 @@ climb e f t = climbing e f (suc t) t
 unfoldable pub attributes_of : ℕ → List Attribute
 attributes_of t = climb [] (λ u inherited. inherited ++ own_of u) t
 
-unfoldable pub attribute_of : ℕ → ℕ → Attribute
-attribute_of t k = get_or (attributes_of t) k Lacking
+unfoldable pub attribute_of : ℕ → ℕ → Option Attribute
+attribute_of t k = slice_get (attributes_of t) k
 
 -- a type has no such attribute
-abbrev pub lacks : Attribute → Bool
-lacks Lacking = true
-lacks Whole = false
-lacks (Reference t) = false
+abbrev pub lacks : Option Attribute → Bool
+lacks None = true
+lacks (Some x) = false
 
-abbrev pub is_reference : Attribute → Bool
-is_reference Lacking = false
-is_reference Whole = false
-is_reference (Reference t) = true
+abbrev pub is_reference : Option Attribute → Bool
+is_reference None = false
+is_reference (Some Whole) = false
+is_reference (Some (Reference t)) = true
 
 -- an `unfolding` line that names this opens the table and all that is read off it
 unfoldable pub the_table : Unit {0}

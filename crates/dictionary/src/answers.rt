@@ -1,22 +1,15 @@
 // What the dictionary answers with.
 
-// A type's parent.
-#[derive(Clone, Copy)]
-pub enum Parent {
-    Root,
-    Is(u32),
-}
-
-// Attribute k of a type: it has none such; I, a whole number; or R t, which names an instance whose type is t or below it.
-#[derive(Clone, Copy)]
+// An attribute: I, a whole number; or R t, which names an instance whose type is t or below it.
+#[derive(Clone, Copy, Debug, PartialEq, Eq)]
 pub enum Attribute {
-    Lacking,
     Whole,
     Reference(u32),
 }
 
-// A type's name: `len` bytes, and 0 in the places past its end.
-#[derive(Clone, Copy)]
+// A type's name: `len` bytes, and 0 in the places past its end. No &str: a contract can say what one shows, and not where it
+// stands, so two answers of `name` would not be one (`dictionary_types_name_one` in `tightness`).
+#[derive(Clone, Copy, Debug, PartialEq, Eq)]
 pub struct Name {
     pub len: u32,
     pub bytes: [u8; 10],

@@ -1,4 +1,4 @@
-// The dictionary of types: the table of the page, and what follows from it. A type is its number. Every function
+// The dictionary of types: the table of the page, and what follows from it. A type is handed over as its number. Every function
 // answers every number, one that is no type too.
 #![tactic(auto)]
 
@@ -10,10 +10,10 @@ pub mod shapes;
 pub mod tags;
 pub mod types;
 
-pub use answers::{Attribute, Name, Parent};
+pub use answers::{Attribute, Name};
 pub use kinds::{attribute, attributes};
 pub use pairs::subtype;
 pub use parents::parent;
 pub use shapes::{mark_in, shape};
 pub use tags::{TAGS, barred, named};
-pub use types::{TYPES, is_type, name, schema};
+pub use types::{NoType, TYPES, Type, is_type, name, schema};

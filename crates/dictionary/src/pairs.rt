@@ -20,7 +20,7 @@ const SUPERTYPES: [u16; TYPES as usize] = [
 
 // A number is a subtype of itself, whether or not it is a type. The table has that of types too, but to tell it first is
 // quicker.
-#[tactic(auto, using(crate::proofs::Arms::below_types))]
+#[tactic(auto, using(crate::proofs::Arms::below_types, crate::proofs::Laws::Subtypes::subtype_same, crate::proofs::Laws::Subtypes::no_type_below, crate::proofs::Laws::Subtypes::no_type_above))]
 pub fn subtype(a: u32, b: u32) -> bool
     ensures { result ≡ spec.subtype a b }
 {

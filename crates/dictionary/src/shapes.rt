@@ -3,46 +3,61 @@
 // on how many attributes there are, and from bit 14 on what a header must not have where it has that (a model past the last,
 // which no type allows, and a flag of no attribute). On top stands the flag of the reference, 2^20 times what a header has for
 // it.
-ghost use Rattle.std.specs.Prelude.{◌≡◌};
+ghost use Rattle.std.specs.Prelude.{◌≡◌, unwrap_or};
 ghost use Rattle.dictionary.specs.Quick.Shapes.{flag_of, packed_of, shape_of, attributes_in, mark_in};
+ghost use Rattle.dictionary.specs.Quick.References.{no_reference};
+ghost use Rattle.dictionary.specs.Types.{number_of};
 
-// The answer for a type without a reference: a number that no attribute has.
-pub const NO_REFERENCE: u32 = 4;
+use super::types::Type;
+
+// An instance has room for no more.
+const ATTRIBUTES: u32 = 4;
 
 // The flag of attribute k, none for a number that no attribute has.
 fn flag(k: u32) -> u64
     ensures { result ≡ flag_of k }
 {
-    if k < NO_REFERENCE { 1 << k } else { 0 }
+    if k < ATTRIBUTES { 1 << k } else { 0 }
 }
 
 // There is room for three attributes and ten types; no type has more.
-fn packed(attributes: u32, reference: u32, targets: u32) -> u64
-    ensures { result ≡ packed_of attributes reference targets }
+#[tactic(auto, using(crate::proofs::Laws::Shapes::flag_small))]
+fn packed(attributes: u32, reference: Option<u32>, targets: u32) -> u64
+    ensures { result ≡ packed_of attributes (unwrap_or reference no_reference) targets }
 {
-    2 * ((targets % 0x400) as u64)
-        + 0x1000 * ((attributes % 4) as u64)
+    2 * u64::from(targets % 0x400)
+        + 0x1000 * u64::from(attributes % 4)
         + 0xc000
         + 0x1_0000 * (16 - flag(attributes))
-        + 0x10_0000_0000 * flag(reference)
+        + 0x10_0000_0000 * reference.map_or(0, flag)
 }
 
-// The table, a row for each type.
+// A number that is no type has no attribute.
+#[tactic(auto, using(crate::proofs::Laws::Shapes::no_type_shape))]
 pub fn shape(t: u32) -> u64
     ensures { result ≡ shape_of t }
 {
-    match t {
-        0 => packed(1, NO_REFERENCE, 0),
-        1 => packed(2, NO_REFERENCE, 0),
-        2 => packed(3, NO_REFERENCE, 0),
-        3 => packed(3, 2, 0x004),
-        4 => packed(2, 1, 0x01f),
-        5 => packed(1, NO_REFERENCE, 0),
-        6 => packed(3, 1, 0x00e),
-        7 => packed(2, 1, 0x00e),
-        8 => packed(1, NO_REFERENCE, 0),
-        9 => packed(2, 1, 0x300),
-        _ => packed(0, NO_REFERENCE, 0),
+    Type::try_from(t).map_or(packed(0, None, 0), Type::shape)
+}
+
+impl Type {
+    // The table, a row for each type.
+    #[tactic(auto, unfolding(crate::specs::Quick::Shapes::the_shapes))]
+    fn shape(self) -> u64
+        ensures { result ≡ shape_of (number_of self) }
+    {
+        match self {
+            Type::Item => packed(1, None, 0),
+            Type::Part => packed(2, None, 0),
+            Type::Plate => packed(3, None, 0),
+            Type::Cavity => packed(3, Some(2), 0x004),
+            Type::Assembly => packed(2, Some(1), 0x01f),
+            Type::Event => packed(1, None, 0),
+            Type::ShotCount => packed(3, Some(1), 0x00e),
+            Type::Repair => packed(2, Some(1), 0x00e),
+            Type::Reading => packed(1, None, 0),
+            Type::Wear => packed(2, Some(1), 0x300),
+        }
     }
 }
 

@@ -1,42 +1,35 @@
 // Schema instances at the edge of their table.
-use crate::asking::{Counting, lead, lead_all, show, started};
-use crate::printing::title;
+use crate::asking::Case;
 use std::io;
 
 fn last(rt: &HostRuntime) -> io::Result<()> {
-    title(
-        rt,
-        b"The last schema instance, 15: made, used, deleted, made once more; one beyond it has no room.",
+    println!(rt;
+        "The last schema instance, 15: made, used, deleted, made once more; one beyond it has no room."
     )?;
-    let c = started(rt)?;
-    let c = lead_all(rt, c, 30, 0, 1, 0, Counting::C, 15)?;
-    let c = show(rt, c, 30, 0, 1, 15)?;
-    let c = show(rt, c, 30, 0, 1, 16)?;
-    let c = show(rt, c, 30, 0, 1, 15)?;
-    let c = lead_all(rt, c, 20, 0, 1, 0, Counting::C, 63)?;
-    let c = lead_all(rt, c, 32, 15, 0, 0, Counting::B, 63)?;
+    let mut case = Case::started(rt)?;
+    case.lead_all(15, |name| [30, 0, 1, name])?;
+    case.show([30, 0, 1, 15])?;
+    case.show([30, 0, 1, 16])?;
+    case.show([30, 0, 1, 15])?;
+    case.lead_all(63, |name| [20, 0, 1, name])?;
+    case.lead_all(63, |model| [32, 15, model, 0])?;
     // the last model in the last set, twice, and out of it
-    let c = lead(rt, c, 20, 0, 1, 63)?;
-    let c = show(rt, c, 32, 15, 63, 0)?;
-    let c = show(rt, c, 32, 15, 63, 0)?;
-    let c = show(rt, c, 33, 15, 63, 0)?;
-    let c = show(rt, c, 33, 15, 63, 0)?;
-    let c = show(rt, c, 31, 15, 0, 0)?;
-    show(rt, c, 30, 0, 2, 15)?;
-    Ok(())
+    case.lead([20, 0, 1, 63])?;
+    case.show([32, 15, 63, 0])?;
+    case.show([32, 15, 63, 0])?;
+    case.show([33, 15, 63, 0])?;
+    case.show([33, 15, 63, 0])?;
+    case.show([31, 15, 0, 0])?;
+    case.show([30, 0, 2, 15])
 }
 
 fn freed(rt: &HostRuntime) -> io::Result<()> {
-    title(
-        rt,
-        b"Of 16 schema instances 7 is deleted, and the next one made is 7.",
-    )?;
-    let c = started(rt)?;
-    let c = lead_all(rt, c, 30, 0, 1, 0, Counting::C, 16)?;
-    let c = show(rt, c, 31, 7, 0, 0)?;
-    let c = show(rt, c, 30, 0, 1, 16)?;
-    show(rt, c, 30, 0, 1, 17)?;
-    Ok(())
+    println!(rt; "Of 16 schema instances 7 is deleted, and the next one made is 7.")?;
+    let mut case = Case::started(rt)?;
+    case.lead_all(16, |name| [30, 0, 1, name])?;
+    case.show([31, 7, 0, 0])?;
+    case.show([30, 0, 1, 16])?;
+    case.show([30, 0, 1, 17])
 }
 
 pub fn run(rt: &HostRuntime) -> io::Result<()> {

@@ -1,5 +1,5 @@
 -- An attribute put or unset.
-use Rattle.std.specs.Prelude.{ℕ, ◌+◌, ◌≤◌, ◌<◌, ◌≡◌, Bool, true, false, not, ◌&&◌, ◌||◌, ◌⊎◌, List, eqb}
+use Rattle.std.specs.Prelude.{ℕ, ◌+◌, ◌≤◌, ◌<◌, ◌≡◌, Bool, true, false, not, ◌&&◌, ◌||◌, ◌⊎◌, List, eqb, Option, None, Some}
 use Rattle.std.proofs.Math.Path.{refl}
 use Rattle.std.proofs.Common.{ap, sym, ◌∙◌, inl, inr, arith, eq-eqb, ne_eqb, le-ltb}
 use Rattle.std.proofs.Math.Decide.{dec_lt}
@@ -13,7 +13,7 @@ use Rattle.words.specs.Laws.Layout.{kinds_apart}
 use Rattle.logic.specs.Laws.Bools.{and_left, and_ended, clash}
 use Rattle.words.specs.Laws.Fields.{Alike, header_is_live, alike_with, alike_without, flagged_with, flagged_without}
 use Rattle.dictionary.specs.declared.answers.Attribute.{Attribute}
-use Rattle.dictionary.specs.declared.answers.Attribute.TheVariants.{Lacking, Whole, Reference}
+use Rattle.dictionary.specs.declared.answers.Attribute.TheVariants.{Whole, Reference}
 use Rattle.dictionary.specs.Dictionary.{is_reference, attribute_of}
 use Rattle.tables.specs.View.{is_live, header_at, type_at}
 use Rattle.tables.specs.Sound.{sound_value}
@@ -32,10 +32,10 @@ pub no_flag_past : (h j : ℕ) → values ≤ j → flagged h j ≡ false
 no_flag_past h j l = rw (le-ltb j values l)
 
 -- a sound reference that is set names a live instance
-pub reference_live : (t : List ℕ) (x : Attribute) (v : ℕ) → is_reference x ≡ true → sound_value t x true v ≡ true → is_live t Instance v ≡ true
-reference_live t Lacking v r h = clash _ r refl
-reference_live t Whole v r h = clash _ r refl
-reference_live t (Reference u) v r h = and_left (is_live t Instance v) _ h
+pub reference_live : (t : List ℕ) (x : Option Attribute) (v : ℕ) → is_reference x ≡ true → sound_value t x true v ≡ true → is_live t Instance v ≡ true
+reference_live t None v r h = clash _ r refl
+reference_live t (Some Whole) v r h = clash _ r refl
+reference_live t (Some (Reference u)) v r h = and_left (is_live t Instance v) _ h
 
 -- ---- one attribute of an instance changed
 

@@ -17,11 +17,10 @@ use Rattle.words.specs.Laws.Copies.{Agreeing, agree_entries}
 use Rattle.state.specs.declared.state.State.{State}
 use Rattle.tables.specs.declared.changes.Change.{Change}
 use Rattle.tables.specs.Changes.{apply}
-use Rattle.session.specs.declared.effects.Tables.{Tables}
+use Rattle.session.specs.Effects.{Tables, working_after, kept_after}
 use Rattle.state.specs.Refusals.{done}
 use Rattle.checks.specs.Operations.{operation_of}
 use Rattle.checks.specs.Checks.{Check, gate}
-use Rattle.session.specs.Effects.{working_after, kept_after}
 use Rattle.session.specs.Step.{Outcome}
 use Rattle.session.specs.Runs.{Call, Answered, Chip, Empty, Fresh, left, answered_by, after_by, history_by, outcome_of, after, history}
 use Rattle.promises.proofs.Fresh.{no_word, no_cursor}

@@ -14,10 +14,9 @@ use Rattle.tables.specs.View.{is_live}
 use Rattle.checks.specs.declared.operations.Operation.{Operation}
 use Rattle.checks.specs.declared.operations.Operation.TheVariants as operation
 use Rattle.state.specs.declared.state.State.{State}
-use Rattle.session.specs.declared.effects.Effect.{Effect}
+use Rattle.session.specs.Effects.{Effect, created}
 use Rattle.state.specs.Refusals.{NO_ROOM, done, number_in}
 use Rattle.checks.specs.Operations.{operation_of}
-use Rattle.session.specs.Effects.{created}
 use Rattle.checks.specs.Checks.{Check, first_of}
 use Rattle.session.specs.Rows.{refusal_of, effect}
 use Rattle.session.specs.Step.{Outcome, core}

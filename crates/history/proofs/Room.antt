@@ -13,11 +13,10 @@ use Rattle.words.proofs.Found.{next_is_free, next_found, next_nowhere}
 use Rattle.checks.specs.declared.operations.Operation.TheVariants as operation
 use Rattle.state.specs.declared.state.State.{State}
 use Rattle.state.specs.declared.state.Session.{Session}
-use Rattle.session.specs.declared.effects.Effect.{Effect}
+use Rattle.session.specs.Effects.{Effect, created}
 use Rattle.state.specs.Refusals.{NO_ROOM, done, number_in}
 use Rattle.checks.specs.Operations.{operation_of}
 use Rattle.session.specs.Sound.{sound}
-use Rattle.session.specs.Effects.{created}
 use Rattle.session.specs.Rows.{refusal_of, effect}
 use Rattle.session.specs.Step.{Outcome, finished, core, step}
 use Rattle.promises.proofs.Core.{core_on_sound}

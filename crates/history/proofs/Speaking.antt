@@ -1,5 +1,5 @@
 -- What a done call says is what it does to the tables.
-use Rattle.std.specs.Prelude.{ℕ, ◌<◌, ◌≡◌, refl, Bool, true, false, cond, List, [], ◌++◌, ltb}
+use Rattle.std.specs.Prelude.{ℕ, ◌<◌, ◌≡◌, refl, Bool, true, false, cond, List, [], ◌++◌, ltb, None}
 use Rattle.std.proofs.Math.Decide.{dec_lt}
 use Rattle.std.proofs.Common.{arith, ltb-true, ne_eqb}
 use Rattle.std.proofs.lemmas.Bool.{not-false}
@@ -15,7 +15,6 @@ use Rattle.words.specs.Laws.Fields.{name_of_label, repository_of_label, schema_o
 use Rattle.words.specs.Laws.Layout.{kinds_apart}
 use Rattle.words.proofs.Found.{next_is_free}
 use Rattle.words.specs.Laws.Copies.{Agreeing}
-use Rattle.dictionary.specs.declared.answers.Attribute.TheVariants.{Lacking}
 use Rattle.dictionary.specs.Dictionary.{is_type, attribute_of, lacks, the_table}
 use Rattle.tables.specs.View.{label_at, header_at, type_at, model_at}
 use Rattle.tables.specs.declared.changes.Change.{Change}
@@ -31,13 +30,10 @@ use Rattle.checks.specs.declared.operations.Writer.{Writer}
 use Rattle.checks.specs.declared.operations.Writer.TheVariants as writer
 use Rattle.state.specs.declared.state.State.{State}
 use Rattle.state.specs.declared.state.Session.{Session}
-use Rattle.session.specs.declared.effects.Effect.{Effect}
-use Rattle.session.specs.declared.effects.Tables.{Tables}
-use Rattle.session.specs.declared.effects.Tables.TheVariants.{Stay, Commit, Drop, Changed}
+use Rattle.session.specs.Effects.{Effect, Tables, Stay, Commit, Drop, Changed, does, full, created, if_writing}
 use Rattle.state.specs.Refusals.{MO_NEXS, MO_DUP, SI_NEXS, SI_DUP, done}
 use Rattle.state.specs.States.{RW, under}
 use Rattle.checks.specs.Checks.{gate}
-use Rattle.session.specs.Effects.{does, full, created, if_writing}
 use Rattle.session.specs.Runs.{Call}
 use Rattle.session.specs.Rows.{session_row, reader_row, writer_row, checks, effect}
 use Rattle.session.specs.Laws.Range.{Clear, clear_first}
@@ -71,7 +67,7 @@ small_type t e = omega (arith, ltb-true t 10 e)
 
 -- an attribute that a type has is one of four
 few_attributes : (t k : ℕ) → lacks (attribute_of t k) ≡ false → k < values
-few_attributes t k e = omega (arith, attributes_few t, attribute_count t k (λ z. clash (lacks Lacking) refl (rw z at e)))
+few_attributes t k e = omega (arith, attributes_few t, attribute_count t k (λ z. clash (lacks None) refl (rw z at e)))
 
 -- a header that is new shows itself, and no flag
 module _ (type model : ℕ) (ht : type < 255) (hm : model < 256) where

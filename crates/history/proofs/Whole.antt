@@ -1,5 +1,5 @@
 -- A sound table is known by what it tells: two that tell the same agree in all words in use.
-use Rattle.std.specs.Prelude.{ℕ, zero, suc, ◌+◌, ◌-◌, ◌/◌, ◌%◌, ◌^◌, ◌<◌, ◌≤◌, ◌≡◌, refl, Bool, true, false, not, List, eqb, ltb, get_or}
+use Rattle.std.specs.Prelude.{ℕ, zero, suc, ◌+◌, ◌-◌, ◌/◌, ◌%◌, ◌^◌, ◌<◌, ◌≤◌, ◌≡◌, refl, Bool, true, false, not, List, eqb, ltb, get_or, Option, None, Some}
 use Rattle.std.proofs.Common.{ap, sym, ◌∙◌, lt_of_lt_of_le, pow_mono, arith, eqb-true}
 use Rattle.std.proofs.Math.Decide.{dec_lt}
 use Rattle.std.proofs.Math.Nat.{div-eq_of_lt}
@@ -18,7 +18,7 @@ use Rattle.words.specs.Laws.Fields.{Label, label_test, label_of_fields, Header, 
 use Rattle.words.specs.Laws.Entries.{entry_test}
 use Rattle.words.specs.Laws.Copies.{agree_test}
 use Rattle.dictionary.specs.declared.answers.Attribute.{Attribute}
-use Rattle.dictionary.specs.declared.answers.Attribute.TheVariants.{Lacking, Whole, Reference}
+use Rattle.dictionary.specs.declared.answers.Attribute.TheVariants.{Whole, Reference}
 use Rattle.dictionary.specs.Dictionary.{attribute_of}
 use Rattle.tables.specs.View.{is_live, set_at, header_at, type_at, is_set, value_at}
 use Rattle.tables.specs.Sound.{sound_value}
@@ -68,10 +68,10 @@ header_known h g p q types models flags = sym (header_of_fields h p) ∙ rw (typ
         by_cases (no l) = no_more_flags h m p (omega arith) ∙ sym (no_more_flags g m q (omega arith))
 
 -- the word of an attribute that is not set
-unset_zero : (t : List ℕ) (x : Attribute) (v : ℕ) → sound_value t x false v ≡ true → v ≡ 0
-unset_zero t Lacking v h = eqb-true v 0 h
-unset_zero t Whole v h = eqb-true v 0 (and_right (ltb v 0x1_0000_0000) (eqb v 0) h)
-unset_zero t (Reference u) v h = eqb-true v 0 h
+unset_zero : (t : List ℕ) (x : Option Attribute) (v : ℕ) → sound_value t x false v ≡ true → v ≡ 0
+unset_zero t None v h = eqb-true v 0 h
+unset_zero t (Some Whole) v h = eqb-true v 0 (and_right (ltb v 0x1_0000_0000) (eqb v 0) h)
+unset_zero t (Some (Reference u)) v h = eqb-true v 0 h
 
 -- ---- word by word
 

@@ -14,14 +14,12 @@ use Rattle.tables.specs.Laws.Sound.{sound_alike}
 use Rattle.tables.specs.Laws.Changes.{Kept, change_keeps}
 use Rattle.state.specs.declared.state.Session.{Session}
 use Rattle.state.specs.declared.state.Answer.{Answer}
-use Rattle.session.specs.declared.effects.Tables.{Tables}
-use Rattle.session.specs.declared.effects.Tables.TheVariants.{Stay, Commit, Drop, Changed}
+use Rattle.session.specs.Effects.{Tables, Stay, Commit, Drop, Changed, working_after, kept_after, unless_refused}
 use Rattle.state.specs.Refusals.{SY_ERR}
 use Rattle.state.specs.States.{answer}
 use Rattle.checks.specs.Operations.{operation_of}
 use Rattle.session.specs.Sound.{sound_session, sound}
 use Rattle.checks.specs.Checks.{first_of, gate}
-use Rattle.session.specs.Effects.{working_after, kept_after, unless_refused}
 use Rattle.session.specs.Rows.{Row, effect, refusal_of, performed}
 use Rattle.session.specs.Step.{Outcome, outcome, finished, core, step}
 use Rattle.session.specs.Runs.{Call, Answered, Chip, Empty, Fresh, answered, answered_by, outcome_of, after_by, history_by, after, history}

@@ -1,8 +1,6 @@
 -- What a run of bytes does, record by record.
-use Rattle.std.specs.Prelude.{ℕ, zero, suc, ◌+◌, ◌*◌, ◌≤◌, ◌<◌, Bool, true, false, cond, List, [], ◌∷◌, ◌++◌, length, take, drop}
-use Rattle.records.specs.declared.decoding.Record.{Record}
-use Rattle.records.specs.declared.decoding.Found.{Found}
-use Rattle.records.specs.declared.decoding.Found.TheVariants.{Whole, Bad}
+use Rattle.std.specs.Prelude.{ℕ, zero, suc, ◌+◌, ◌*◌, ◌≤◌, ◌<◌, Option, None, Some, Bool, true, false, cond, List, [], ◌∷◌, ◌++◌, length, take, drop}
+use Rattle.state.specs.declared.state.Order.{Order}
 use Rattle.records.specs.Records.{size, record_of}
 use Rattle.records.specs.Lines.{line_text, bad_text, end_text}
 use Rattle.state.specs.declared.state.Session.{Session}
@@ -60,7 +58,7 @@ after_call op o x =
       text = x.text ++ line_text (x.done + 1) op o.answer.refusal o.answer.value o.answer.place;
     }
 
-abbrev pub after_record : Record → Here → Here
+abbrev pub after_record : Order → Here → Here
 after_record r x = after_call r.op (core r.op r.a r.b r.c x.session x.working x.kept) x
 
 -- the program stops behind a last line
@@ -71,9 +69,9 @@ stopped line x = record { session = x.session; working = x.working; kept = x.kep
 abbrev pub after_bad : Here → Here
 after_bad x = stopped (bad_text (x.done + 1)) x
 
-abbrev pub after_found : Found → Here → Here
-after_found (Whole r) x = after_record r x
-after_found Bad x = after_bad x
+abbrev pub after_found : Option Order → Here → Here
+after_found (Some r) x = after_record r x
+after_found None x = after_bad x
 
 -- "a proper end": the input is over, and no record of it was bad
 abbrev pub after_end : Here → Here

@@ -1,8 +1,6 @@
 -- What the program prints, by the run of the calls that the records of its input are.
-use Rattle.std.specs.Prelude.{ℕ, zero, suc, ◌+◌, ◌*◌, ◌/◌, ◌<◌, Bool, true, false, cond, List, [], ◌∷◌, ◌++◌, length, get_or, take, drop}
-use Rattle.records.specs.declared.decoding.Record.{Record}
-use Rattle.records.specs.declared.decoding.Found.{Found}
-use Rattle.records.specs.declared.decoding.Found.TheVariants.{Whole, Bad}
+use Rattle.std.specs.Prelude.{ℕ, zero, suc, ◌+◌, ◌*◌, ◌/◌, ◌<◌, Option, None, Some, Bool, true, false, cond, List, [], ◌∷◌, ◌++◌, length, get_or, take, drop}
+use Rattle.state.specs.declared.state.Order.{Order}
 use Rattle.records.specs.Records.{size, record_of}
 use Rattle.records.specs.Lines.{line_text, bad_text, end_text}
 use Rattle.session.specs.Runs.{Call, call, Answered, fresh_chip, history}
@@ -12,13 +10,13 @@ pub record Input : Type 0 where
   pub calls : List Call
   pub proper : Bool
 
-abbrev pub call_of : Record → Call
+abbrev pub call_of : Order → Call
 call_of r = call r.op r.a r.b r.c
 
 -- one record more, and then the rest, unless it is bad
-abbrev pub with_record : Found → List Call → (List Call → Input) → Input
-with_record (Whole r) earlier rest = rest (call_of r ∷ earlier)
-with_record Bad earlier rest = record { calls = earlier; proper = false }
+abbrev pub with_record : Option Order → List Call → (List Call → Input) → Input
+with_record (Some r) earlier rest = rest (call_of r ∷ earlier)
+with_record None earlier rest = record { calls = earlier; proper = false }
 
 -- at most k records of the bytes, behind those that came earlier
 unfoldable pub input_in : ℕ → List ℕ → List Call → Input

@@ -10,8 +10,8 @@ ghost use Rattle.records.specs.Records.{size};
 ghost use Rattle.reader.specs.Blocks.{block_records, block_size, out_size, here};
 ghost use Rattle.reader.specs.Reads.{between, after_read, silent, flushed};
 
-use blocks::{BLOCK, OUT, Run, fresh};
-use reads::{Stand, run_last, run_read};
+use blocks::{BLOCK, OUT, Run};
+use reads::Stand;
 use std::io;
 use std::io::Read;
 use words::layout::WORDS;
@@ -33,12 +33,10 @@ fn halted(rt: &HostRuntime, run: Run, why: &str) -> Run
     ensures { (result.at ≡ 0) × (result.done ≡ run.done) × (result.on ≡ false) }
 {
     rt.eprintln(why).ok();
-    let session = run.session;
     Run {
-        session,
-        done: run.done,
         at: 0,
         on: false,
+        ..run
     }
 }
 
@@ -47,17 +45,10 @@ fn sent(rt: &HostRuntime, run: Run, out: &[u8]) -> Run
     requires { run.at ≤ length out.now }
     ensures { (result.at ≡ 0) × (result.done ≡ run.done) × (result.on ≡ true → (o w k : List ℕ) → here result o w k ≡ silent (here run o w k)) }
 {
-    let at = run.at;
-    if rt.write_all(&out[0..at]).is_err() {
+    if rt.write_all(&out[..run.at]).is_err() {
         return halted(rt, run, "reader: the output cannot be written");
     }
-    let session = run.session;
-    Run {
-        session,
-        done: run.done,
-        at: 0,
-        on: run.on,
-    }
+    Run { at: 0, ..run }
 }
 
 // One read: what has come, what it prints, and whether the program goes on. If it does, it stands behind some bytes more.
@@ -75,25 +66,22 @@ fn turn(
         → (came : List ℕ) × (between result.run result.held block.new out.new working.new kept.new
         ≡ flushed (after_read came (between start.run start.held block.old out.old working.old kept.old)))) }
 {
-    let run = start.run;
-    let held = start.held;
-    let Ok(got) = fetch(rt, held, block) else {
+    let Ok(got) = fetch(rt, start.held, block) else {
         return Stand {
-            run: halted(rt, run, "reader: the input cannot be read"),
+            run: halted(rt, start.run, "reader: the input cannot be read"),
             held: 0,
         };
     };
     if got == 0 {
-        let run = run_last(run, held, block, out, working, kept);
+        let run = start.run_last(block, out, working, kept);
         return Stand {
             run: sent(rt, run, out),
             held: 0,
         };
     }
-    let next = run_read(run, held, block, got, out, working, kept);
-    let run = next.run;
+    let next = start.run_read(block, got, out, working, kept);
     Stand {
-        run: sent(rt, run, out),
+        run: sent(rt, next.run, out),
         held: next.held,
     }
 }
@@ -102,13 +90,14 @@ fn serve(rt: &HostRuntime, block: &mut [u8], out: &mut [u8], working: &mut [u64]
     requires { (length block.old ≡ block_size) × (length out.old ≡ out_size) }
 {
     let mut stand = Stand {
-        run: fresh(),
+        run: Run::fresh(),
         held: 0,
     };
-    let mut turns = 0;
-    while stand.run.on & (turns < TURNS) {
+    for _ in 0..TURNS {
+        if !stand.run.on {
+            break;
+        }
         stand = turn(rt, stand, block, out, working, kept);
-        turns += 1;
     }
 }
 

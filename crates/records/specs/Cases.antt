@@ -1,15 +1,14 @@
 -- Records and lines of the ten (CHIP, reader).
-use Rattle.std.specs.Prelude.{◌≡◌, refl, [], ◌∷◌}
-use Rattle.records.specs.declared.decoding.Found.TheVariants.{Whole, Bad}
+use Rattle.std.specs.Prelude.{◌≡◌, refl, [], ◌∷◌, None, Some}
 use Rattle.records.specs.Records.{record_of}
 use Rattle.records.specs.Lines.{decimal_in, line_text, bad_text, end_text}
 
 -- 20(0,1,7), with a byte of the next record behind it
-pub create_model_lem : record_of (0x53 ∷ 0x44 ∷ 20 ∷ 0 ∷ 0 ∷ 0 ∷ 0 ∷ 0 ∷ 1 ∷ 0 ∷ 0 ∷ 0 ∷ 7 ∷ 0 ∷ 0 ∷ 0 ∷ 0x53 ∷ []) ≡ Whole (record { op = 20; a = 0; b = 1; c = 7 })
+pub create_model_lem : record_of (0x53 ∷ 0x44 ∷ 20 ∷ 0 ∷ 0 ∷ 0 ∷ 0 ∷ 0 ∷ 1 ∷ 0 ∷ 0 ∷ 0 ∷ 7 ∷ 0 ∷ 0 ∷ 0 ∷ 0x53 ∷ []) ≡ Some (record { op = 20; a = 0; b = 1; c = 7 })
 create_model_lem = refl
 
 -- the same with its last byte cut off
-pub cut : record_of (0x53 ∷ 0x44 ∷ 20 ∷ 0 ∷ 0 ∷ 0 ∷ 0 ∷ 0 ∷ 1 ∷ 0 ∷ 0 ∷ 0 ∷ 7 ∷ 0 ∷ 0 ∷ []) ≡ Bad
+pub cut : record_of (0x53 ∷ 0x44 ∷ 20 ∷ 0 ∷ 0 ∷ 0 ∷ 0 ∷ 0 ∷ 1 ∷ 0 ∷ 0 ∷ 0 ∷ 7 ∷ 0 ∷ 0 ∷ []) ≡ None
 cut = refl
 
 -- the line of the tenth record

@@ -32,17 +32,17 @@ ended n stop = decimal n ++ (stop ∷ [])
 abbrev pub line_text : ℕ → ℕ → ℕ → ℕ → ℕ → List ℕ
 line_text n op refusal value place = ended n blank ++ ended op blank ++ ended refusal blank ++ ended value blank ++ ended place line_feed
 
--- a word of three letters, and a number
-abbrev pub last_text : ℕ → ℕ → ℕ → ℕ → List ℕ
-last_text x y z n = (x ∷ y ∷ z ∷ blank ∷ []) ++ ended n line_feed
+-- a word, a blank and a number
+abbrev pub last_text : List ℕ → ℕ → List ℕ
+last_text word n = (word ++ (blank ∷ [])) ++ ended n line_feed
 
 -- `bad N`
 abbrev pub bad_text : ℕ → List ℕ
-bad_text n = last_text 98 97 100 n
+bad_text n = last_text (98 ∷ 97 ∷ 100 ∷ []) n
 
 -- `end N`
 abbrev pub end_text : ℕ → List ℕ
-end_text n = last_text 101 110 100 n
+end_text n = last_text (101 ∷ 110 ∷ 100 ∷ []) n
 
 -- ---- writing
 

@@ -1,8 +1,6 @@
 -- The record that a run of bytes begins with.
-use Rattle.std.specs.Prelude.{ℕ, ◌+◌, ◌*◌, Bool, cond, ◌&&◌, List, eqb, leb, length, get_or}
-use Rattle.records.specs.declared.decoding.Record.{Record}
-use Rattle.records.specs.declared.decoding.Found.{Found}
-use Rattle.records.specs.declared.decoding.Found.TheVariants.{Whole, Bad}
+use Rattle.std.specs.Prelude.{ℕ, ◌+◌, ◌*◌, Bool, cond, ◌&&◌, List, Option, None, Some, eqb, leb, length, get_or}
+use Rattle.state.specs.declared.state.Order.{Order}
 
 -- CHIP, reader
 abbrev pub size : ℕ
@@ -20,9 +18,9 @@ abbrev pub long_at : List ℕ → ℕ → ℕ
 long_at s at = short_at s at + 65536 * short_at s (at + 2)
 
 -- the operation has two bytes, an argument four
-abbrev pub fields_of : List ℕ → Record
+abbrev pub fields_of : List ℕ → Order
 fields_of s = record { op = short_at s 2; a = long_at s 4; b = long_at s 8; c = long_at s 12 }
 
--- bad if it is cut or its mark is wrong
-abbrev pub record_of : List ℕ → Found
-record_of s = cond (leb size (length s) && marked s) (Whole (fields_of s)) Bad
+-- bad if it is cut or its mark is wrong: there is none then
+abbrev pub record_of : List ℕ → Option Order
+record_of s = cond (leb size (length s) && marked s) (Some (fields_of s)) None

@@ -4,16 +4,27 @@ use Rattle.words.specs.declared.layout.Kind.{Kind}
 use Rattle.words.specs.Layout.{count_of}
 use Rattle.words.specs.Entries.{next_free}
 use Rattle.words.specs.Copies.{copied}
+use Rattle.tables.specs.declared.changes.Change.{Change}
 use Rattle.tables.specs.declared.changes.Change.TheVariants.{Made}
 use Rattle.tables.specs.Changes.{apply}
 use Rattle.state.specs.declared.state.State.{State}
-use Rattle.session.specs.declared.effects.Tables.{Tables}
-use Rattle.session.specs.declared.effects.Tables.TheVariants.{Stay, Commit, Drop, Changed}
-use Rattle.session.specs.declared.effects.Effect.{Effect}
 use Rattle.state.specs.Refusals.{NO_ROOM, done, ◌on◌, room_of}
 use Rattle.state.specs.States.{RW, under}
 
--- what becomes of the tables: nothing; a commit copies working to kept, a drop kept to working; or working is changed
+-- what becomes of the tables
+pub data Tables : Type 0 where
+  Stay : Tables
+  Commit : Tables
+  Drop : Tables
+  Changed : Change → Tables
+
+pub record Effect : Type 0 where
+  pub refusal : ℕ
+  pub value : ℕ
+  pub state : State
+  pub tables : Tables
+
+-- nothing; a commit copies working to kept, a drop kept to working; or working is changed
 abbrev pub working_after : Tables → List ℕ → List ℕ → List ℕ
 working_after Stay w k = w
 working_after Commit w k = w

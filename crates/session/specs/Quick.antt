@@ -4,3 +4,4 @@ pub mod Access
 pub mod Answers
 pub mod Rows
 pub mod Served
+pub mod Follows

@@ -1,13 +1,13 @@
 -- The table of CHIP, operations: for each operation its refusals in the page's order, each with its condition and the place
 -- that it names, and the effect when none of them is given.
-use Rattle.std.specs.Prelude.{ℕ, not, List, [], ◌∷◌, ◌++◌}
+use Rattle.std.specs.Prelude.{ℕ, not, List, [], ◌∷◌, ◌++◌, Option, Some, None}
 use Rattle.words.specs.declared.layout.Kind.{Kind}
 use Rattle.words.specs.declared.layout.Kind.TheVariants.{Model, SchemaInstance, Instance}
 use Rattle.words.specs.Sets.{none, has, insert, remove, size_of}
 use Rattle.words.specs.Fields.{is_schema, label_of, header_of, model_in, value_in}
 use Rattle.words.specs.Entries.{is_taken}
 use Rattle.dictionary.specs.declared.answers.Attribute.{Attribute}
-use Rattle.dictionary.specs.declared.answers.Attribute.TheVariants.{Lacking, Whole, Reference}
+use Rattle.dictionary.specs.declared.answers.Attribute.TheVariants.{Whole, Reference}
 use Rattle.dictionary.specs.Dictionary.{is_type, attribute_of}
 use Rattle.dictionary.specs.Subtype.{subtype}
 use Rattle.tables.specs.View.{label_at, set_at, header_at, type_at, model_at, is_set, value_at}
@@ -22,12 +22,10 @@ use Rattle.checks.specs.declared.operations.Reader.TheVariants as reader
 use Rattle.checks.specs.declared.operations.Writer.{Writer}
 use Rattle.checks.specs.declared.operations.Writer.TheVariants as writer
 use Rattle.state.specs.declared.state.State.{State}
-use Rattle.session.specs.declared.effects.Tables.TheVariants.{Stay, Commit, Drop, Changed}
-use Rattle.session.specs.declared.effects.Effect.{Effect}
+use Rattle.session.specs.Effects.{Stay, Commit, Drop, Changed, Effect, does, unless_refused, if_writing, number, created}
 use Rattle.state.specs.Refusals.{TR_EAB, TR_EXS, TR_NEXS, TR_NAVL, TR_NRW, RP_NEXS, RP_OPN, RP_NOPN, MO_NEXS, MO_DUP, MO_NDEQ, MO_NVLD, MX_RO, MX_RW, MX_NRW, SD_NDEF, SI_NEXS, SI_DUP, ED_NDEF, ED_NDEQ, ED_NVLD, EI_NEXS, AT_NDEF, VA_NSET, VA_NVLD, VT_NVLD, ◌on◌, REMAINING}
 use Rattle.state.specs.States.{NONE, RO, RW, ABORTED, under, with_recording, with_transaction, with_repositories, with_access, woken, ended, closed_state, opened_state}
 use Rattle.checks.specs.Checks.{Check, ◌gives◌, first_of, no_repository, not_opened, away, missing, lacks_attribute, schemas_differ, type_foreign, types_differ, wrong_type, apart, in_reach, writable, accessed, gate}
-use Rattle.session.specs.Effects.{does, unless_refused, if_writing, number, created}
 
 -- the refusals of an operation, and its effect when done
 pub record Row : Type 0 where
@@ -107,10 +105,10 @@ abbrev pub writing : ℕ → ℕ → State → List Check → List Check
 writing header k s rest = writable header EI_NEXS (model_in header) s (lacks_attribute header k gives AT_NDEF on 2 ∷ rest)
 
 -- 44, of R alone: value v in an instance of model m
-abbrev pub referring : Attribute → ℕ → ℕ → List ℕ → List Check
-referring Lacking m v w = []
-referring Whole m v w = []
-referring (Reference target) m v w =
+abbrev pub referring : Option Attribute → ℕ → ℕ → List ℕ → List Check
+referring None m v w = []
+referring (Some Whole) m v w = []
+referring (Some (Reference target)) m v w =
     missing (header_at w v) gives VA_NVLD on 3 ∷ wrong_type (header_at w v) target gives VT_NVLD on 3 ∷ apart w m (model_at w v) gives MO_NVLD on 3 ∷ []
 
 -- MX_NRW is first about the named entry's own model, and then about those that refer to what would go

@@ -8,8 +8,7 @@ use Rattle.state.specs.Refusals.{SY_ERR, done, ◌on◌}
 use Rattle.checks.specs.Operations.{operation_of}
 use Rattle.state.specs.States.{is_open, blank_log, session, noted, answer}
 use Rattle.session.specs.Sound.{sound}
-use Rattle.session.specs.declared.effects.Effect.{Effect}
-use Rattle.session.specs.Effects.{working_after, kept_after}
+use Rattle.session.specs.Effects.{Effect, working_after, kept_after}
 use Rattle.session.specs.Rows.{performed}
 
 pub record Outcome : Type 0 where

@@ -1,59 +1,54 @@
 // The answer of a call: what its session holds after it.
 ghost use Rattle.std.specs.Prelude.{◌≡◌};
-ghost use Rattle.state.specs.Refusals.{SY_ERR, done, ◌on◌};
+ghost use Rattle.state.specs.Refusals.{SY_ERR, ◌on◌};
+ghost use Rattle.state.specs.Numbers.{told, value_told};
 ghost use Rattle.state.specs.States.{session, answer};
 ghost use Rattle.session.specs.Quick.Answers.{log_stays, log_of};
 
 use state::events::{blank_log, noted};
-use state::refusals;
-use state::refusals::on;
-use state::state::{Answer, Log, Session, State, answer_of, is_open};
+use state::refusals::{Place, Refusal, Refused};
+use state::state::{Answer, Log, Session, State, answer_of};
 
 // SY_ERR adds no event: the session goes back as it came.
 pub fn unsound(x: Session) -> Answer
     ensures { result ≡ answer (SY_ERR on 0) 0 x }
 {
-    answer_of(on(refusals::SY_ERR, 0), 0, x)
+    answer_of(Err(Refusal::SyErr.on(Place::Nowhere)), x)
 }
 
 // The log is as it was: the operation is done, and the session is open.
-pub fn log_stays(refusal: u32, state: State) -> bool
-    ensures { result ≡ log_stays refusal state }
+pub fn log_stays(given: Result<u32, Refused>, state: State) -> bool
+    ensures { result ≡ log_stays (told given) state }
 {
-    (refusal == refusals::DONE) & is_open(state)
+    given.is_ok() & state.is_open()
 }
 
 // The answer where the log stays.
-pub fn carried(x: Session, value: u32, state: State) -> Answer
-    ensures { result ≡ answer done value (session state x.log) }
+pub fn carried(x: Session, given: Result<u32, Refused>, state: State) -> Answer
+    ensures { result ≡ answer (told given) (value_told given) (session state x.log) }
 {
-    let log = x.log;
-    answer_of(refusals::DONE, value, Session { state, log })
+    answer_of(given, Session { state, log: x.log })
 }
 
 // A refusal may add an event, and a closed session has none.
-fn log_after(op: u32, refusal: u32, x: Session, s: State) -> Log
-    ensures { result ≡ log_of op refusal x s }
+fn log_after(op: u32, given: Result<u32, Refused>, x: Session, s: State) -> Log
+    ensures { result ≡ log_of op (told given) x s }
 {
-    let log = x.log;
-    let before = x.state;
-    if refusal != refusals::DONE {
-        return noted(log, before, op, refusal);
+    match given {
+        Err(refused) => noted(x.log, x.state, op, refused),
+        Ok(_) => { if s.is_open() { x.log } else { blank_log() } }
     }
-    if is_open(s) { log } else { blank_log() }
 }
 
-// The answer for an operation, done or refused. A refused one comes with value 0 and the state as it was, so that the answer
-// is built once.
-pub fn finished(op: u32, x: Session, refusal: u32, value: u32, state: State) -> Answer
-    ensures { result ≡ answer refusal value (session state (log_of op refusal x state)) }
+// The answer for an operation, done or refused. A refused one comes with the state as it was, so that the answer is built once.
+pub fn finished(op: u32, x: Session, given: Result<u32, Refused>, state: State) -> Answer
+    ensures { result ≡ answer (told given) (value_told given) (session state (log_of op (told given) x state)) }
 {
     answer_of(
-        refusal,
-        value,
+        given,
         Session {
             state,
-            log: log_after(op, refusal, x, state),
+            log: log_after(op, given, x, state),
         },
     )
 }

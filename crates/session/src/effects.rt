@@ -1,102 +1,40 @@
-// What a call does: its refusal, or what is done, the value, the state and what becomes of the tables. An operation
-// only says the change; the tables are written elsewhere.
-ghost use Rattle.std.specs.Prelude.{◌≡◌};
-ghost use Rattle.session.specs.Effects.{does, refuses, unless_refused, number, if_writing, created as created_in};
+// What operations make of the tables, but for a single change.
+ghost use Rattle.std.specs.Prelude.{◌≡◌, List, ℕ};
+ghost use Rattle.session.specs.Effects.{if_writing, working_after, kept_after, Commit, Drop, created as created_in};
+ghost use Rattle.session.specs.Quick.Served.{serving, served, served_by};
 
-use state::refusals;
-use state::refusals::{on, room_of};
-use state::state::{RW, State, under};
-use tables::changes::Change;
-use words::layout::{Kind, count};
+use state::refusals::{Refusal, Refused, room_of};
+use state::state::{State, Transaction};
+use tables::changes::{Change, apply};
+use words::copies::copy;
+use words::layout::Kind;
 use words::search::next_free;
 
-// What becomes of the tables.
-#[derive(Clone, Copy)]
-pub enum Tables {
-    Stay,
-    // Working is copied to kept.
-    Commit,
-    // Kept is copied to working.
-    Drop,
-    // Working is changed.
-    Changed(Change),
-}
-
-// `refusal` is done, or why nothing is.
-#[derive(Clone, Copy)]
-pub struct Effect {
-    pub refusal: u32,
-    pub value: u32,
-    pub state: State,
-    pub tables: Tables,
-}
-
-pub fn done(value: u32, state: State, tables: Tables) -> Effect
-    ensures { result ≡ does value state tables }
+// A commit, only where a transaction writes.
+pub fn commit_writing(s: State, working: &[u64], kept: &mut [u64])
+    ensures { kept.new ≡ kept_after (if_writing s Commit) working.now kept.old }
 {
-    Effect {
-        refusal: refusals::DONE,
-        value,
-        state,
-        tables,
+    if s.under(Transaction::ReadWrite) {
+        copy(working, kept);
     }
 }
 
-// Nothing is done.
-pub fn refused(refusal: u32, state: State) -> Effect
-    ensures { result ≡ refuses refusal state }
+// What is not committed is dropped, where a transaction writes.
+pub fn drop_writing(s: State, working: &mut [u64], kept: &[u64])
+    ensures { working.new ≡ working_after (if_writing s Drop) working.old kept.now }
 {
-    Effect {
-        refusal,
-        value: 0,
-        state,
-        tables: Tables::Stay,
+    if s.under(Transaction::ReadWrite) {
+        copy(kept, working);
     }
-}
-
-// Only the state changes.
-pub fn moved(state: State) -> Effect
-    ensures { result ≡ does 0 state Tables.Stay }
-{
-    done(0, state, Tables::Stay)
-}
-
-pub fn changed(state: State, change: Change) -> Effect
-    ensures { result ≡ does 0 state (Tables.Changed change) }
-{
-    done(0, state, Tables::Changed(change))
-}
-
-// What commits or drops does so only where a transaction writes.
-pub fn if_writing(s: State, tables: Tables) -> Tables
-    ensures { result ≡ if_writing s tables }
-{
-    if under(s, RW) { tables } else { Tables::Stay }
-}
-
-pub fn as_number(b: bool) -> u32
-    ensures { result ≡ number b }
-{
-    if b { 1 } else { 0 }
 }
 
 // The next free number is taken; NO_ROOM if every entry is live.
-pub fn created(kind: Kind, first: u64, s: State, w: &[u64]) -> Effect
-    ensures { result ≡ created_in kind first s w.now }
+pub fn created(kind: Kind, first: u64, s: State, w: &mut [u64]) -> Result<u32, Refused>
+    ensures { (kept : List ℕ) → serving (served result s) w.new kept ≡ served_by (created_in kind first s w.old) w.old kept }
 {
-    let n = next_free(w, kind);
-    if n < count(kind) {
-        return done(n, s, Tables::Changed(Change::Made(kind, n, first)));
-    }
-    refused(on(refusals::NO_ROOM, room_of(kind)), s)
-}
-
-// The effect, unless a check refuses. An effect is only said, not written, so it is said whether or not a check refuses.
-pub fn unless(refusal: u32, s: State, effect: Effect) -> Effect
-    ensures { result ≡ unless_refused refusal s effect }
-{
-    if refusal != refusals::DONE {
-        return refused(refusal, s);
-    }
-    effect
+    let Some(n) = next_free(w, kind) else {
+        return Err(Refusal::NoRoom.on(room_of(kind)));
+    };
+    apply(w, Change::Made(kind, n, first));
+    Ok(n)
 }

@@ -1,196 +1,207 @@
 // The operations that ask for an open session and no more.
-ghost use Rattle.std.specs.Prelude.{◌≡◌};
-ghost use Rattle.checks.specs.Checks.{first_of};
-ghost use Rattle.session.specs.Rows.{untransacted as untransacted_of, settling as settling_of, session_row};
-ghost use Rattle.checks.specs.Quick.Known.{known};
+ghost use Rattle.std.specs.Prelude.{◌≡◌, [], ◌++◌, List, ℕ};
+ghost use Rattle.checks.specs.Quick.Asked.{Asks};
+ghost use Rattle.state.specs.Numbers.{transaction_number};
+ghost use Rattle.state.specs.States as states;
+ghost use Rattle.session.specs.Effects.{does, Stay};
+ghost use Rattle.session.specs.Rows.{◌then◌, untransacted as untransacted_of, settling as settling_of, session_row};
 ghost use Rattle.session.specs.Quick.Rows.{row_done};
+ghost use Rattle.session.specs.Quick.Served.{serving, served, served_by};
+ghost use Rattle.session.specs.Quick.Follows.{Follows};
 
-use crate::effects::{Effect, Tables, as_number, done, if_writing, moved, unless};
+use crate::effects::{commit_writing, drop_writing};
 use checks::conditions::{no_repository, no_type, not_opened, types_differ};
 use checks::operations::InSession;
-use checks::shared::first;
-use state::refusals;
-use state::state::{
-    ABORTED, NONE, RO, RW, State, closed_state, ended, under, with_access, with_recording,
-    with_repositories, with_transaction,
-};
+use checks::shared::refuse_if;
+use state::refusals::{Place, Refusal, Refused};
+use state::state::{Order, State, Transaction, closed_state};
+use words::copies::copy;
 use words::sets::{EMPTY, has, with, without};
 
-fn open_repository(a: u32, s: State) -> Effect
-    ensures { result ≡ row_done s (session_row InSession.OpenRepository a 0 s) }
+// What was not committed is dropped.
+fn close_session(s: &mut State, working: &mut [u64], kept: &[u64]) -> Result<u32, Refused>
+    ensures { serving (served result s.new) working.new kept.now ≡ served_by (row_done s.old (session_row InSession.CloseSession 0 0 s.old)) working.old kept.now }
 {
-    unless(
-        first(
-            no_repository(a),
-            refusals::RP_NEXS,
-            1,
-            first(has(s.repositories, a), refusals::RP_OPN, 1, refusals::DONE),
-        ),
-        s,
-        moved(with_repositories(s, with(s.repositories, a))),
+    drop_writing(*s, working, kept);
+    *s = closed_state();
+    Ok(0)
+}
+
+fn open_repository(a: u32, s: &mut State) -> Result<u32, Refused>
+    ensures { (w : List ℕ) → Follows (λ s w. session_row InSession.OpenRepository a 0 s) s.old w result s.new w }
+{
+    refuse_if(no_repository(a), Refusal::RpNexs, Place::First)?;
+    refuse_if(has(s.repositories, a), Refusal::RpOpn, Place::First)?;
+    *s = s.with_repositories(with(s.repositories, a));
+    Ok(0)
+}
+
+// No transaction is open.
+fn untransacted(s: State) -> Result<(), Refused>
+    ensures { Asks (untransacted_of s) result }
+{
+    refuse_if(
+        s.under(Transaction::Aborted),
+        Refusal::TrEab,
+        Place::Nowhere,
+    )?;
+    refuse_if(
+        !s.under(Transaction::Absent),
+        Refusal::TrExs,
+        Place::Nowhere,
     )
 }
 
-// No transaction is open, and then the rest.
-fn untransacted(s: State, rest: u32) -> u32
-    ensures { result ≡ first_of (untransacted_of s (known rest)) }
+fn close_repository(a: u32, s: &mut State) -> Result<u32, Refused>
+    ensures { (w : List ℕ) → Follows (λ s w. session_row InSession.CloseRepository a 0 s) s.old w result s.new w }
 {
-    first(
-        under(s, ABORTED),
-        refusals::TR_EAB,
-        0,
-        first(!under(s, NONE), refusals::TR_EXS, 0, rest),
-    )
+    untransacted(*s)?;
+    refuse_if(no_repository(a), Refusal::RpNexs, Place::First)?;
+    refuse_if(not_opened(*s, a), Refusal::RpNopn, Place::First)?;
+    *s = s.with_repositories(without(s.repositories, a));
+    Ok(0)
 }
 
-fn close_repository(a: u32, s: State) -> Effect
-    ensures { result ≡ row_done s (session_row InSession.CloseRepository a 0 s) }
+// A transaction that writes, or one that only reads.
+fn start(transaction: Transaction, s: &mut State) -> Result<u32, Refused>
+    ensures { (w : List ℕ) → Follows (λ s w. untransacted_of s [] then does 0 (states.with_transaction s (transaction_number transaction)) Stay) s.old w result s.new w }
 {
-    unless(
-        untransacted(
-            s,
-            first(
-                no_repository(a),
-                refusals::RP_NEXS,
-                1,
-                first(not_opened(s, a), refusals::RP_NOPN, 1, refusals::DONE),
-            ),
-        ),
-        s,
-        moved(with_repositories(s, without(s.repositories, a))),
-    )
-}
-
-fn start_read_write(s: State) -> Effect
-    ensures { result ≡ row_done s (session_row InSession.StartReadWrite 0 0 s) }
-{
-    unless(
-        untransacted(s, refusals::DONE),
-        s,
-        moved(with_transaction(s, RW)),
-    )
-}
-
-fn start_read_only(s: State) -> Effect
-    ensures { result ≡ row_done s (session_row InSession.StartReadOnly 0 0 s) }
-{
-    unless(
-        untransacted(s, refusals::DONE),
-        s,
-        moved(with_transaction(s, RO)),
-    )
+    untransacted(*s)?;
+    *s = s.with_transaction(transaction);
+    Ok(0)
 }
 
 // Of commit and abort.
-fn settling(s: State) -> u32
-    ensures { result ≡ first_of (settling_of s) }
+fn settling(s: State) -> Result<(), Refused>
+    ensures { Asks (λ rest. settling_of s ++ rest) result }
 {
-    first(
-        under(s, ABORTED),
-        refusals::TR_EAB,
-        0,
-        first(
-            under(s, NONE),
-            refusals::TR_NEXS,
-            0,
-            first(under(s, RO), refusals::TR_NRW, 0, refusals::DONE),
-        ),
+    refuse_if(
+        s.under(Transaction::Aborted),
+        Refusal::TrEab,
+        Place::Nowhere,
+    )?;
+    refuse_if(
+        s.under(Transaction::Absent),
+        Refusal::TrNexs,
+        Place::Nowhere,
+    )?;
+    refuse_if(
+        s.under(Transaction::ReadOnly),
+        Refusal::TrNrw,
+        Place::Nowhere,
     )
 }
 
-fn commit(s: State) -> Effect
-    ensures { result ≡ row_done s (session_row InSession.Commit 0 0 s) }
+fn commit(s: State, working: &[u64], kept: &mut [u64]) -> Result<u32, Refused>
+    ensures { serving (served result s) working.now kept.new ≡ served_by (row_done s (session_row InSession.Commit 0 0 s)) working.now kept.old }
 {
-    unless(settling(s), s, done(0, s, Tables::Commit))
+    settling(s)?;
+    copy(working, kept);
+    Ok(0)
 }
 
-fn abort(s: State) -> Effect
-    ensures { result ≡ row_done s (session_row InSession.Abort 0 0 s) }
+fn abort(s: &mut State, working: &mut [u64], kept: &[u64]) -> Result<u32, Refused>
+    ensures { serving (served result s.new) working.new kept.now ≡ served_by (row_done s.old (session_row InSession.Abort 0 0 s.old)) working.old kept.now }
 {
-    unless(
-        settling(s),
-        s,
-        done(0, with_access(s, EMPTY, EMPTY), Tables::Drop),
-    )
+    settling(*s)?;
+    copy(kept, working);
+    *s = s.with_access(EMPTY, EMPTY);
+    Ok(0)
 }
 
-fn end_commit(s: State) -> Effect
-    ensures { result ≡ row_done s (session_row InSession.EndCommit 0 0 s) }
+fn end_commit(s: &mut State, working: &[u64], kept: &mut [u64]) -> Result<u32, Refused>
+    ensures { serving (served result s.new) working.now kept.new ≡ served_by (row_done s.old (session_row InSession.EndCommit 0 0 s.old)) working.now kept.old }
 {
-    unless(
-        first(
-            under(s, ABORTED),
-            refusals::TR_EAB,
-            0,
-            first(under(s, NONE), refusals::TR_NEXS, 0, refusals::DONE),
-        ),
-        s,
-        done(0, ended(s, NONE), if_writing(s, Tables::Commit)),
-    )
+    refuse_if(
+        s.under(Transaction::Aborted),
+        Refusal::TrEab,
+        Place::Nowhere,
+    )?;
+    refuse_if(
+        s.under(Transaction::Absent),
+        Refusal::TrNexs,
+        Place::Nowhere,
+    )?;
+    commit_writing(*s, working, kept);
+    *s = s.ended(Transaction::Absent);
+    Ok(0)
 }
 
 // The way out of an aborted transaction too.
-fn end_abort(s: State) -> Effect
-    ensures { result ≡ row_done s (session_row InSession.EndAbort 0 0 s) }
+fn end_abort(s: &mut State, working: &mut [u64], kept: &[u64]) -> Result<u32, Refused>
+    ensures { serving (served result s.new) working.new kept.now ≡ served_by (row_done s.old (session_row InSession.EndAbort 0 0 s.old)) working.old kept.now }
 {
-    unless(
-        first(under(s, NONE), refusals::TR_NEXS, 0, refusals::DONE),
-        s,
-        done(0, ended(s, NONE), if_writing(s, Tables::Drop)),
-    )
+    refuse_if(
+        s.under(Transaction::Absent),
+        Refusal::TrNexs,
+        Place::Nowhere,
+    )?;
+    drop_writing(*s, working, kept);
+    *s = s.ended(Transaction::Absent);
+    Ok(0)
 }
 
-fn storage_fault(s: State) -> Effect
-    ensures { result ≡ row_done s (session_row InSession.StorageFault 0 0 s) }
+fn storage_fault(s: &mut State, working: &mut [u64], kept: &[u64]) -> Result<u32, Refused>
+    ensures { serving (served result s.new) working.new kept.now ≡ served_by (row_done s.old (session_row InSession.StorageFault 0 0 s.old)) working.old kept.now }
 {
-    unless(
-        first(
-            under(s, ABORTED),
-            refusals::TR_EAB,
-            0,
-            first(under(s, NONE), refusals::TR_NAVL, 0, refusals::DONE),
-        ),
-        s,
-        done(0, ended(s, ABORTED), if_writing(s, Tables::Drop)),
-    )
+    refuse_if(
+        s.under(Transaction::Aborted),
+        Refusal::TrEab,
+        Place::Nowhere,
+    )?;
+    refuse_if(
+        s.under(Transaction::Absent),
+        Refusal::TrNavl,
+        Place::Nowhere,
+    )?;
+    drop_writing(*s, working, kept);
+    *s = s.ended(Transaction::Aborted);
+    Ok(0)
 }
 
-fn is_subtype(a: u32, b: u32, s: State) -> Effect
-    ensures { result ≡ row_done s (session_row InSession.IsSubtype a b s) }
+// The value is whether it was recording.
+fn stop_recording(s: &mut State) -> Result<u32, Refused>
+    ensures { (w : List ℕ) → Follows (λ s w. session_row InSession.StopRecording 0 0 s) s.old w result s.new w }
 {
-    unless(
-        first(
-            no_type(a),
-            refusals::ED_NDEF,
-            1,
-            first(
-                no_type(b),
-                refusals::ED_NDEF,
-                2,
-                first(types_differ(a, b), refusals::ED_NDEQ, 2, refusals::DONE),
-            ),
-        ),
-        s,
-        done(as_number(dictionary::subtype(a, b)), s, Tables::Stay),
-    )
+    let recording = s.recording;
+    *s = s.with_recording(0);
+    Ok(recording)
 }
 
-pub fn in_session(op: InSession, a: u32, b: u32, s: State) -> Effect
-    ensures { result ≡ row_done s (session_row op a b s) }
+fn is_subtype(a: u32, b: u32, s: State) -> Result<u32, Refused>
+    ensures { (w : List ℕ) → Follows (λ s w. session_row InSession.IsSubtype a b s) s w result s w }
+{
+    refuse_if(no_type(a), Refusal::EdNdef, Place::First)?;
+    refuse_if(no_type(b), Refusal::EdNdef, Place::Second)?;
+    refuse_if(types_differ(a, b), Refusal::EdNdeq, Place::Second)?;
+    Ok(u32::from(dictionary::subtype(a, b)))
+}
+
+pub fn in_session(
+    op: InSession,
+    o: Order,
+    s: &mut State,
+    working: &mut [u64],
+    kept: &mut [u64],
+) -> Result<u32, Refused>
+    ensures { serving (served result s.new) working.new kept.new ≡ served_by (row_done s.old (session_row op o.a o.b s.old)) working.old kept.old }
 {
     match op {
-        InSession::CloseSession => done(0, closed_state(), if_writing(s, Tables::Drop)),
-        InSession::OpenRepository => open_repository(a, s),
-        InSession::CloseRepository => close_repository(a, s),
-        InSession::StartReadWrite => start_read_write(s),
-        InSession::StartReadOnly => start_read_only(s),
-        InSession::Commit => commit(s),
-        InSession::Abort => abort(s),
-        InSession::EndCommit => end_commit(s),
-        InSession::EndAbort => end_abort(s),
-        InSession::StartRecording => done(1, with_recording(s, 1), Tables::Stay),
-        InSession::StopRecording => done(s.recording, with_recording(s, 0), Tables::Stay),
-        InSession::StorageFault => storage_fault(s),
-        InSession::IsSubtype => is_subtype(a, b, s),
+        InSession::CloseSession => close_session(s, working, kept),
+        InSession::OpenRepository => open_repository(o.a, s),
+        InSession::CloseRepository => close_repository(o.a, s),
+        InSession::StartReadWrite => start(Transaction::ReadWrite, s),
+        InSession::StartReadOnly => start(Transaction::ReadOnly, s),
+        InSession::Commit => commit(*s, working, kept),
+        InSession::Abort => abort(s, working, kept),
+        InSession::EndCommit => end_commit(s, working, kept),
+        InSession::EndAbort => end_abort(s, working, kept),
+        InSession::StartRecording => {
+            *s = s.with_recording(1);
+            Ok(1)
+        }
+        InSession::StopRecording => stop_recording(s),
+        InSession::StorageFault => storage_fault(s, working, kept),
+        InSession::IsSubtype => is_subtype(o.a, o.b, *s),
     }
 }

@@ -1,5 +1,5 @@
-// The session machine: a row for each operation, its checks and its effect, and the one call.
-#![tactic(auto)]
+// The session machine: a function for each operation, which asks its checks and then makes its change, and the one call.
+#![tactic(auto, using(crate::specs::Laws::Rows::none_left))]
 
 pub mod answers;
 pub mod call;

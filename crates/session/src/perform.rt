@@ -1,35 +1,33 @@
-// What a call does on a sound state: refused at the gate, refused by the operation's own checks, or its effect.
+// An operation by its family, behind the gate.
 ghost use Rattle.std.specs.Prelude.{◌≡◌};
-ghost use Rattle.session.specs.Rows.{row_of, performed};
+ghost use Rattle.session.specs.Rows.{row_of};
 ghost use Rattle.session.specs.Quick.Rows.{row_done};
+ghost use Rattle.session.specs.Quick.Served.{serving, served, served_by};
 
-use crate::effects::{Effect, moved, refused};
 use crate::in_session::in_session;
 use crate::readers::read;
 use crate::writers::write;
-use checks::gate::gate;
 use checks::operations::Operation;
-use state::refusals;
-use state::state::{State, opened_state};
+use state::refusals::Refused;
+use state::state::{Order, State, opened_state};
 
-fn own(op: Operation, a: u32, b: u32, c: u32, s: State, w: &[u64]) -> Effect
-    ensures { result ≡ row_done s (row_of op a b c s w.now) }
+pub fn own(
+    op: Operation,
+    o: Order,
+    s: &mut State,
+    working: &mut [u64],
+    kept: &mut [u64],
+) -> Result<u32, Refused>
+    ensures { serving (served result s.new) working.new kept.new ≡ served_by (row_done s.old (row_of op o.a o.b o.c s.old working.old)) working.old kept.old }
 {
     match op {
-        Operation::Unlisted => moved(s),
-        Operation::Opening => moved(opened_state()),
-        Operation::InSession(o) => in_session(o, a, b, s),
-        Operation::Reader(o) => read(o, a, b, s, w),
-        Operation::Writer(o) => write(o, a, b, c, s, w),
+        Operation::Unlisted => Ok(0),
+        Operation::Opening => {
+            *s = opened_state();
+            Ok(0)
+        }
+        Operation::InSession(op) => in_session(op, o, s, working, kept),
+        Operation::Reader(op) => read(op, o, s, working),
+        Operation::Writer(op) => write(op, o, s, working),
     }
-}
-
-pub fn perform(op: Operation, a: u32, b: u32, c: u32, s: State, w: &[u64]) -> Effect
-    ensures { result ≡ performed op a b c s w.now }
-{
-    let refusal = gate(op, s);
-    if refusal != refusals::DONE {
-        return refused(refusal, s);
-    }
-    own(op, a, b, c, s, w)
 }

@@ -1,4 +1,5 @@
 pub mod Refusals
 pub mod States
+pub mod Numbers
 pub mod Quick
 pub mod Laws

@@ -1,3 +1,2 @@
 -- What only the quick code asks for. No promise is about it.
 pub mod Events
-pub mod Lent

@@ -2,6 +2,5 @@
 #![tactic(auto)]
 
 pub mod events;
-pub mod lent;
 pub mod refusals;
 pub mod state;

@@ -1,23 +1,43 @@
 // A session, as a caller holds it between calls: integers alone, every bit pattern a value, and the test of soundness
 // judges each.
 ghost use Rattle.std.specs.Prelude.{◌≡◌};
+ghost use Rattle.state.specs.Numbers.{transaction_number, told, value_told};
 ghost use Rattle.state.specs.States.{is_open, under as is_under, with_recording, with_transaction, with_repositories, with_access, woken as woken_in, ended as ended_state, closed_state, opened_state, answer};
 
-use crate::refusals::{number_in, place_in};
+use crate::events::SLOTS;
+use crate::refusals::Refused;
 use words::sets::{EMPTY, has, with};
 
-// The transaction of a session.
-pub const NONE: u32 = 0;
+// The transaction of a session. What a session holds of it is its number.
+#[derive(Clone, Copy, Debug, PartialEq, Eq)]
+pub enum Transaction {
+    Absent = 0,
+    ReadOnly = 1,
+    ReadWrite = 2,
+    Aborted = 3,
+}
 
-pub const RO: u32 = 1;
+impl From<Transaction> for u32 {
+    ghost from_gives = { λ transaction n. n ≡ transaction_number transaction };
 
-pub const RW: u32 = 2;
+    fn from(transaction: Transaction) -> u32 {
+        transaction as u32
+    }
+}
 
-pub const ABORTED: u32 = 3;
+// An operation: its number and its arguments.
+#[repr(C)]
+#[derive(Clone, Copy, Debug, PartialEq, Eq)]
+pub struct Order {
+    pub op: u32,
+    pub a: u32,
+    pub b: u32,
+    pub c: u32,
+}
 
 // What the operations see and change. The sets have bit m for model m, bit r for repository r.
 #[repr(C)]
-#[derive(Clone, Copy)]
+#[derive(Clone, Copy, Debug, PartialEq, Eq)]
 pub struct State {
     pub repositories: u64,
     pub ro: u64,
@@ -30,7 +50,7 @@ pub struct State {
 // A refusal, its place and the operation that it was given to. The last two bytes carry nothing: they have a name because
 // the compiler copies structs without a hole in few moves, and others field by field.
 #[repr(C)]
-#[derive(Clone, Copy)]
+#[derive(Clone, Copy, Debug, PartialEq, Eq)]
 pub struct Event {
     pub op: u32,
     pub refusal: u8,
@@ -40,22 +60,22 @@ pub struct Event {
 
 // The events that are recorded, oldest first: the first `count` slots.
 #[repr(C)]
-#[derive(Clone, Copy)]
+#[derive(Clone, Copy, Debug, PartialEq, Eq)]
 pub struct Log {
-    pub events: [Event; 16],
+    pub events: [Event; SLOTS],
     pub count: u64,
 }
 
 // The log stands first, since a session is copied quickest so.
 #[repr(C)]
-#[derive(Clone, Copy)]
+#[derive(Clone, Copy, Debug, PartialEq, Eq)]
 pub struct Session {
     pub log: Log,
     pub state: State,
 }
 
 #[repr(C)]
-#[derive(Clone, Copy)]
+#[derive(Clone, Copy, Debug, PartialEq, Eq)]
 pub struct Answer {
     pub refusal: u16,
     pub place: u16,
@@ -63,63 +83,69 @@ pub struct Answer {
     pub session: Session,
 }
 
-pub fn is_open(s: State) -> bool
-    ensures { result ≡ is_open s }
-{
-    s.opened == 1
-}
-
-// The session has this transaction.
-pub fn under(s: State, transaction: u32) -> bool
-    ensures { result ≡ is_under s transaction }
-{
-    s.transaction == transaction
-}
-
-pub fn with_recording(mut s: State, on: u32) -> State
-    ensures { result ≡ with_recording s on }
-{
-    s.recording = on;
-    s
-}
-
-pub fn with_transaction(mut s: State, transaction: u32) -> State
-    ensures { result ≡ with_transaction s transaction }
-{
-    s.transaction = transaction;
-    s
-}
-
-pub fn with_repositories(mut s: State, repositories: u64) -> State
-    ensures { result ≡ with_repositories s repositories }
-{
-    s.repositories = repositories;
-    s
-}
-
-pub fn with_access(mut s: State, ro: u64, rw: u64) -> State
-    ensures { result ≡ with_access s ro rw }
-{
-    s.ro = ro;
-    s.rw = rw;
-    s
-}
-
-// Model m has read-only access unless it has access that writes: one without access is woken.
-pub fn woken(s: State, m: u32) -> State
-    ensures { result ≡ woken_in s m }
-{
-    if has(s.rw, m) {
-        return s;
+impl State {
+    pub fn is_open(self) -> bool
+        ensures { result ≡ is_open self }
+    {
+        self.opened == 1
     }
-    with_access(s, with(s.ro, m), s.rw)
-}
 
-// All access ends.
-pub fn ended(s: State, transaction: u32) -> State
-    ensures { result ≡ ended_state s transaction }
-{
-    with_transaction(with_access(s, EMPTY, EMPTY), transaction)
+    // The session has this transaction.
+    pub fn under(self, transaction: Transaction) -> bool
+        ensures { result ≡ is_under self (transaction_number transaction) }
+    {
+        self.transaction == u32::from(transaction)
+    }
+
+    pub fn with_recording(self, on: u32) -> State
+        ensures { result ≡ with_recording self on }
+    {
+        State {
+            recording: on,
+            ..self
+        }
+    }
+
+    pub fn with_transaction(self, transaction: Transaction) -> State
+        ensures { result ≡ with_transaction self (transaction_number transaction) }
+    {
+        State {
+            transaction: u32::from(transaction),
+            ..self
+        }
+    }
+
+    pub fn with_repositories(self, repositories: u64) -> State
+        ensures { result ≡ with_repositories self repositories }
+    {
+        State {
+            repositories,
+            ..self
+        }
+    }
+
+    pub fn with_access(self, ro: u64, rw: u64) -> State
+        ensures { result ≡ with_access self ro rw }
+    {
+        State { ro, rw, ..self }
+    }
+
+    // Model m has read-only access unless it has access that writes: one without access is woken.
+    pub fn woken(self, m: u32) -> State
+        ensures { result ≡ woken_in self m }
+    {
+        if has(self.rw, m) {
+            return self;
+        }
+        self.with_access(with(self.ro, m), self.rw)
+    }
+
+    // All access ends.
+    pub fn ended(self, transaction: Transaction) -> State
+        ensures { result ≡ ended_state self (transaction_number transaction) }
+    {
+        self.with_access(EMPTY, EMPTY).with_transaction(transaction)
+    }
 }
 
 pub fn closed_state() -> State
@@ -128,7 +154,7 @@ pub fn closed_state() -> State
     State {
         opened: 0,
         recording: 0,
-        transaction: NONE,
+        transaction: u32::from(Transaction::Absent),
         repositories: EMPTY,
         ro: EMPTY,
         rw: EMPTY,
@@ -141,21 +167,26 @@ pub fn opened_state() -> State
     State {
         opened: 1,
         recording: 1,
-        transaction: NONE,
-        repositories: EMPTY,
-        ro: EMPTY,
-        rw: EMPTY,
+        ..closed_state()
     }
 }
 
-// A refusal on its place, a value and the session that goes back: this is the one place that builds answers.
-pub fn answer_of(refusal: u32, value: u32, session: Session) -> Answer
-    ensures { result ≡ answer refusal value session }
+// The value or the refusal that was given, and the session that goes back: this is the one place that builds answers.
+pub fn answer_of(given: Result<u32, Refused>, session: Session) -> Answer
+    ensures { result ≡ answer (told given) (value_told given) session }
 {
-    Answer {
-        refusal: number_in(refusal) as u16,
-        place: place_in(refusal) as u16,
-        value,
-        session,
+    match given {
+        Ok(value) => Answer {
+            refusal: 0,
+            place: 0,
+            value,
+            session,
+        },
+        Err(refused) => Answer {
+            refusal: u16::from(u8::from(refused.refusal)),
+            place: u16::from(u8::from(refused.place)),
+            value: 0,
+            session,
+        },
     }
 }

@@ -1,5 +1,5 @@
 -- Sound tables, clause by clause (CHIP, sound tables).
-use Rattle.std.specs.Prelude.{ℕ, Bool, cond, not, ◌&&◌, ◌||◌, List, eqb, ltb}
+use Rattle.std.specs.Prelude.{ℕ, Bool, cond, not, ◌&&◌, ◌||◌, List, eqb, ltb, Option, None, Some}
 use Rattle.words.specs.declared.layout.Kind.{Kind}
 use Rattle.words.specs.declared.layout.Kind.TheVariants.{Model, SchemaInstance, Instance}
 use Rattle.words.specs.Layout.{count_of}
@@ -9,7 +9,7 @@ use Rattle.words.specs.Fields.{name_in, repository_in, schema_in, type_in, model
 use Rattle.words.specs.Entries.{free_at, cursor_in, all_formed}
 use Rattle.words.specs.Copies.{is_long, agree}
 use Rattle.dictionary.specs.declared.answers.Attribute.{Attribute}
-use Rattle.dictionary.specs.declared.answers.Attribute.TheVariants.{Lacking, Whole, Reference}
+use Rattle.dictionary.specs.declared.answers.Attribute.TheVariants.{Whole, Reference}
 use Rattle.dictionary.specs.Dictionary.{is_type, schema_of, attribute_of}
 use Rattle.dictionary.specs.Subtype.{subtype}
 use Rattle.tables.specs.View.{is_live, label_at, set_at, header_at, type_at, is_set, value_at}
@@ -34,10 +34,10 @@ sound_group t s =
 
 -- only an attribute that the type has is set; where none is set the word is 0; a value is below 2^32, and a reference leads to
 -- a live instance of a type that it may name
-abbrev pub sound_value : List ℕ → Attribute → Bool → ℕ → Bool
-sound_value t Lacking set v = not set && eqb v 0
-sound_value t Whole set v = ltb v 0x1_0000_0000 && (set || eqb v 0)
-sound_value t (Reference target) set v = cond set (is_live t Instance v && subtype (type_at t v) target) (eqb v 0)
+abbrev pub sound_value : List ℕ → Option Attribute → Bool → ℕ → Bool
+sound_value t None set v = not set && eqb v 0
+sound_value t (Some Whole) set v = ltb v 0x1_0000_0000 && (set || eqb v 0)
+sound_value t (Some (Reference target)) set v = cond set (is_live t Instance v && subtype (type_at t v) target) (eqb v 0)
 
 -- an instance lies in a live model of the schema that its type is of
 abbrev pub sound_header : List ℕ → ℕ → Bool

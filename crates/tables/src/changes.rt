@@ -8,7 +8,7 @@ use words::entries::make;
 use words::layout::Kind;
 
 // A change, as an operation says it.
-#[derive(Clone, Copy)]
+#[derive(Clone, Copy, Debug, PartialEq, Eq)]
 pub enum Change {
     // Entry n of a kind is made with this first word.
     Made(Kind, u32, u64),
@@ -23,6 +23,8 @@ pub enum Change {
     Unset(u32, u32),
 }
 
+// In place at each call: a change that is known there needs no test of which it is.
+#[inline(always)]
 pub fn apply(t: &mut [u64], change: Change)
     ensures { t.new ≡ spec.apply change t.old }
 {

@@ -7,28 +7,22 @@ ghost use Rattle.tables.specs.Quick.Going as quick;
 ghost use Rattle.tables.specs.Deletions.{goes_with, holds_back, held_back, detached, swept_at, swept, ungrouped, without};
 
 use crate::edits::{leave, unset};
-use crate::going;
-use crate::going::Going;
+use crate::going::{Going, is_of};
 use crate::pointers::pointer_in;
 use crate::view::{header_at, is_set, value_at};
 use words::copies::is_long;
 use words::entries::{clear, first_word, present};
-use words::fields::{VALUES, model_in};
+use words::fields::model_in;
 use words::layout::{Kind, count};
 use words::sets::has;
 
-// Whether instance j goes with entry n of a kind. What a value word names may be any number.
+// Whether instance j goes with entry n of a kind. What a value word names may be any number. Kind and number stand apart here as
+// `held_back` and `remove` take them.
 fn goes_with(t: &[u64], kind: Kind, n: u32, j: u64) -> bool
     ensures { result ≡ goes_with t.now kind n j }
 {
     match kind {
-        Kind::Model => {
-            if j < (count(Kind::Instance) as u64) {
-                going::is_of(t, n, j as u32)
-            } else {
-                false
-            }
-        }
+        Kind::Model => j < (count(Kind::Instance) as u64) && is_of(t, n, j as u32),
         Kind::SchemaInstance => false,
         Kind::Instance => j == (n as u64),
     }
@@ -44,27 +38,20 @@ fn holds_back(t: &[u64], kind: Kind, n: u32, rw: u64, i: u32) -> bool
     if has(rw, model_in(header)) {
         return false;
     }
-    let k = pointer_in(header);
-    if k == VALUES {
+    let Some(k) = pointer_in(header) else {
         return false;
-    }
-    if goes_with(t, kind, n, i as u64) {
-        return false;
-    }
-    goes_with(t, kind, n, value_at(t, i, k))
+    };
+    !goes_with(t, kind, n, i as u64) && goes_with(t, kind, n, value_at(t, i, k))
 }
 
 // The deletion of entry n of a kind is held back.
 pub fn held_back(t: &[u64], kind: Kind, n: u32, rw: u64) -> bool
     ensures { result ≡ held_back t.now kind n rw }
 {
-    let all = present(t, Kind::Instance);
-    let mut i = 0;
-    while i < all {
+    for i in 0..present(t, Kind::Instance) {
         if holds_back(t, kind, n, rw, i) {
             return true;
         }
-        i += 1;
     }
     false
 }
@@ -73,12 +60,10 @@ pub fn held_back(t: &[u64], kind: Kind, n: u32, rw: u64) -> bool
 fn detach(t: &mut [u64], g: Going, i: u32)
     ensures { t.new ≡ detached t.old (quick.goes g) i values }
 {
-    let k = pointer_in(header_at(t, i));
-    if k == VALUES {
-        return;
-    }
-    if going::goes(g, value_at(t, i, k)) {
-        unset(t, i, k);
+    if let Some(k) = pointer_in(header_at(t, i)) {
+        if g.goes(value_at(t, i, k)) {
+            unset(t, i, k);
+        }
     }
 }
 
@@ -86,23 +71,14 @@ fn detach(t: &mut [u64], g: Going, i: u32)
 fn may_refer(t: &[u64], g: Going, i: u32, k: u32) -> bool
     ensures { result ≡ quick.may_refer t.now g i k }
 {
-    if going::may_go(g, value_at(t, i, k)) {
-        return is_set(t, i, k);
-    }
-    false
+    g.may_go(value_at(t, i, k)) && is_set(t, i, k)
 }
 
 // Instance i may go or refer to one that goes. A reference stands second or third.
 fn may_change(t: &[u64], g: Going, i: u32) -> bool
     ensures { result ≡ quick.may_change t.now g i }
 {
-    if going::may_go(g, i as u64) {
-        return true;
-    }
-    if may_refer(t, g, i, 1) {
-        return true;
-    }
-    may_refer(t, g, i, 2)
+    g.may_go(i as u64) || may_refer(t, g, i, 1) || may_refer(t, g, i, 2)
 }
 
 // Instance i surely stays as it is. Most do, and are told by three words and no type. The length is asked for here, so that
@@ -110,20 +86,14 @@ fn may_change(t: &[u64], g: Going, i: u32) -> bool
 fn is_passed(t: &[u64], g: Going, i: u32) -> bool
     ensures { result ≡ quick.is_passed t.now g i }
 {
-    if !is_long(t) {
-        return false;
-    }
-    if g.beyond != 0 {
-        return false;
-    }
-    !may_change(t, g, i)
+    is_long(t) && g.is_near() && !may_change(t, g, i)
 }
 
 // Instance i is freed if it goes, and else without a reference to one that goes.
 fn settle(t: &mut [u64], g: Going, i: u32)
     ensures { t.new ≡ swept_at t.old (quick.goes g) i }
 {
-    if going::goes(g, i as u64) {
+    if g.goes(i as u64) {
         clear(t, Kind::Instance, i);
     } else {
         detach(t, g, i);
@@ -133,21 +103,17 @@ fn settle(t: &mut [u64], g: Going, i: u32)
 fn sweep_at(t: &mut [u64], g: Going, i: u32)
     ensures { t.new ≡ swept_at t.old (quick.goes g) i }
 {
-    if is_passed(t, g, i) {
-        return;
+    if !is_passed(t, g, i) {
+        settle(t, g, i);
     }
-    settle(t, g, i);
 }
 
 // Those that go are freed and references to them unset, the last instance included.
 fn sweep(t: &mut [u64], g: Going)
     ensures { t.new ≡ swept t.old (quick.goes g) (count_of kinds.Instance) }
 {
-    let n = count(Kind::Instance);
-    let mut i = 0;
-    while i < n {
+    for i in 0..count(Kind::Instance) {
         sweep_at(t, g, i);
-        i += 1;
     }
 }
 
@@ -155,11 +121,8 @@ fn sweep(t: &mut [u64], g: Going)
 fn ungroup(t: &mut [u64], m: u32)
     ensures { t.new ≡ ungrouped t.old m (count_of kinds.SchemaInstance) }
 {
-    let n = count(Kind::SchemaInstance);
-    let mut s = 0;
-    while s < n {
+    for s in 0..count(Kind::SchemaInstance) {
         leave(t, s, m);
-        s += 1;
     }
 }
 
@@ -167,7 +130,7 @@ fn ungroup(t: &mut [u64], m: u32)
 fn remove_model(t: &mut [u64], m: u32)
     ensures { t.new ≡ without t.old kinds.Model m }
 {
-    let g = going::those_of(t, m);
+    let g = Going::those_of(t, m);
     sweep(t, g);
     ungroup(t, m);
     clear(t, Kind::Model, m);
@@ -180,6 +143,6 @@ pub fn remove(t: &mut [u64], kind: Kind, n: u32)
     match kind {
         Kind::Model => remove_model(t, n),
         Kind::SchemaInstance => clear(t, kind, n),
-        Kind::Instance => sweep(t, going::one(n)),
+        Kind::Instance => sweep(t, Going::one(n)),
     }
 }

@@ -14,12 +14,12 @@ use words::layout::Kind;
 use words::sets;
 
 // Bit j of low for instance j below 64, of high for instance 64 + j. A table that is not sound may
-// refer past the last instance: beyond is the one number there that goes, 0 if none does.
+// refer past the last instance: beyond is the one number there that goes.
 #[derive(Clone, Copy)]
 pub struct Going {
-    pub low: u64,
-    pub high: u64,
-    pub beyond: u64,
+    low: u64,
+    high: u64,
+    beyond: Option<u64>,
 }
 
 // low has a bit for each number below HALF, high for the others below ALL.
@@ -27,66 +27,90 @@ const HALF: u64 = 64;
 
 const ALL: u64 = 128;
 
-pub fn nothing() -> Going
-    ensures { result ≡ spec.nothing }
-{
-    Going {
-        low: sets::EMPTY,
-        high: sets::EMPTY,
-        beyond: 0,
+impl Going {
+    fn nothing() -> Going
+        ensures { result ≡ spec.nothing }
+    {
+        Going {
+            low: sets::EMPTY,
+            high: sets::EMPTY,
+            beyond: None,
+        }
     }
-}
 
-// Whether a number goes. What a value word names may be any number.
-pub fn goes(g: Going, j: u64) -> bool
-    ensures { result ≡ spec.goes g j }
-{
-    if j < HALF {
-        return sets::has(g.low, j as u32);
+    fn with(self, j: u32) -> Going
+        ensures { result ≡ spec.with_number self j }
+    {
+        let n = j as u64;
+        if n < HALF {
+            return Going {
+                low: sets::with(self.low, j),
+                ..self
+            };
+        }
+        if n < ALL {
+            return Going {
+                high: sets::with(self.high, (n - HALF) as u32),
+                ..self
+            };
+        }
+        Going {
+            beyond: Some(n),
+            ..self
+        }
     }
-    if j < ALL {
-        return sets::has(g.high, (j - HALF) as u32);
-    }
-    j == g.beyond
-}
 
-// Whether a number may go, by its low bits: where nothing is beyond, one of which they say no does not go.
-pub fn may_go(g: Going, j: u64) -> bool
-    ensures { result ≡ spec.may_go g j }
-{
-    ((g.low | g.high) >> (j % HALF)) % 2 == 1
-}
+    // What goes with the deletion of instance i: it alone.
+    pub fn one(i: u32) -> Going
+        ensures { result ≡ spec.one_going i }
+    {
+        Going::nothing().with(i)
+    }
 
-pub fn with(g: Going, j: u32) -> Going
-    ensures { result ≡ spec.with_number g j }
-{
-    let n = j as u64;
-    if n < HALF {
-        return Going {
-            low: sets::with(g.low, j),
-            high: g.high,
-            beyond: g.beyond,
-        };
+    // What goes with the deletion of model m: its live instances. Both halves in one loop leave the compiler registers for them.
+    pub fn those_of(t: &[u64], m: u32) -> Going
+        ensures { result ≡ spec.gathered t.now m }
+    {
+        let all = present(t, Kind::Instance);
+        let mut low = sets::EMPTY;
+        let mut high = sets::EMPTY;
+        for i in 0..sets::BITS {
+            low = with_if(low, i, is_of_present(t, all, m, i));
+            high = with_if(high, i, is_of_present(t, all, m, sets::BITS + i));
+        }
+        Going {
+            low,
+            high,
+            beyond: None,
+        }
     }
-    if n < ALL {
-        return Going {
-            low: g.low,
-            high: sets::with(g.high, (n - HALF) as u32),
-            beyond: g.beyond,
-        };
-    }
-    Going {
-        low: g.low,
-        high: g.high,
-        beyond: n,
-    }
-}
 
-// What goes with the deletion of instance i: it alone.
-pub fn one(i: u32) -> Going
-    ensures { result ≡ spec.one_going i }
-{
-    with(nothing(), i)
+    // Whether a number goes. What a value word names may be any number.
+    pub fn goes(self, j: u64) -> bool
+        ensures { result ≡ spec.goes self j }
+    {
+        if j < HALF {
+            return sets::has(self.low, j as u32);
+        }
+        if j < ALL {
+            return sets::has(self.high, (j - HALF) as u32);
+        }
+        self.beyond == Some(j)
+    }
+
+    // Whether a number may go, by its low bits: where nothing is beyond, one of which they say no does not go.
+    pub fn may_go(self, j: u64) -> bool
+        ensures { result ≡ spec.may_go self j }
+    {
+        ((self.low | self.high) >> (j % HALF)) % 2 == 1
+    }
+
+    // No number past the last instance goes.
+    pub fn is_near(self) -> bool
+        ensures { result ≡ spec.is_near self }
+    {
+        self.beyond.is_none()
+    }
 }
 
 // An instance with this header is a live one of model m.
@@ -108,34 +132,11 @@ fn is_of_present(t: &[u64], all: u32, m: u32, i: u32) -> bool
     requires { Present t.now kinds.Instance all }
     ensures { result ≡ goes_with t.now kinds.Model m i }
 {
-    if i < all {
-        return lies_in(first_word(t, Kind::Instance, i), m);
-    }
-    false
+    i < all && lies_in(first_word(t, Kind::Instance, i), m)
 }
 
 fn with_if(set: u64, j: u32, so: bool) -> u64
     ensures { result ≡ cond so (insert set j) set }
 {
     if so { sets::with(set, j) } else { set }
-}
-
-// What goes with the deletion of model m: its live instances. Both halves in one loop leave the compiler registers for them.
-pub fn those_of(t: &[u64], m: u32) -> Going
-    ensures { result ≡ spec.gathered t.now m }
-{
-    let all = present(t, Kind::Instance);
-    let mut low = sets::EMPTY;
-    let mut high = sets::EMPTY;
-    let mut i = 0;
-    while i < sets::BITS {
-        low = with_if(low, i, is_of_present(t, all, m, i));
-        high = with_if(high, i, is_of_present(t, all, m, sets::BITS + i));
-        i += 1;
-    }
-    Going {
-        low,
-        high,
-        beyond: 0,
-    }
 }

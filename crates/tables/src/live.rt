@@ -5,42 +5,53 @@ ghost use Rattle.tables.specs.Quick.Live.{no_live, with_live, of_schema, within,
 use dictionary::schema;
 use words::sets::{BITS, EMPTY, with};
 
+// A schema is a number here, 1 or 2, as `schema_in` and `schema` say it.
 #[derive(Clone, Copy)]
 pub struct Live {
-    pub first: u64,
-    pub second: u64,
+    first: u64,
+    second: u64,
 }
 
-pub fn nobody() -> Live
-    ensures { result ≡ no_live }
-{
-    Live {
-        first: EMPTY,
-        second: EMPTY,
-    }
-}
-
-// With entry i, which is of this schema.
-pub fn joined(live: Live, schema: u32, i: u32) -> Live
-    ensures { result ≡ with_live live schema i }
-{
-    if schema == 1 {
+impl Live {
+    pub fn nobody() -> Live
+        ensures { result ≡ no_live }
+    {
         Live {
-            first: with(live.first, i),
-            second: live.second,
-        }
-    } else {
-        Live {
-            first: live.first,
-            second: with(live.second, i),
+            first: EMPTY,
+            second: EMPTY,
         }
     }
-}
 
-pub fn of_schema(live: Live, schema: u32) -> u64
-    ensures { result ≡ of_schema live schema }
-{
-    if schema == 1 { live.first } else { live.second }
+    // With entry i, which is of this schema.
+    pub fn joined(self, schema: u32, i: u32) -> Live
+        ensures { result ≡ with_live self schema i }
+    {
+        if schema == 1 {
+            Live {
+                first: with(self.first, i),
+                ..self
+            }
+        } else {
+            Live {
+                second: with(self.second, i),
+                ..self
+            }
+        }
+    }
+
+    pub fn of_schema(self, schema: u32) -> u64
+        ensures { result ≡ of_schema self schema }
+    {
+        if schema == 1 { self.first } else { self.second }
+    }
+
+    // An instance lies in a live model of its type's schema (CHIP, sound tables). A model past the last is found out among the
+    // strays, and the bit is asked for in one expression, not by `has`: so the compiler makes one instruction of it.
+    pub fn model_fits(self, ty: u32, h: u64) -> bool
+        ensures { result ≡ model_fits self ty h }
+    {
+        (self.of_schema(schema(ty)) >> (h / 0x100 % (BITS as u64))) % 2 == 1
+    }
 }
 
 // Every member of the set is in the other.
@@ -48,12 +59,4 @@ pub fn is_within(set: u64, other: u64) -> bool
     ensures { result ≡ within set other }
 {
     set & other == set
-}
-
-// An instance lies in a live model of its type's schema (CHIP, sound tables). A model past the last is found out among the
-// strays, and the bit is asked for in one expression, not by `has`: so the compiler makes one instruction of it.
-pub fn model_fits(live: Live, ty: u32, h: u64) -> bool
-    ensures { result ≡ model_fits live ty h }
-{
-    (of_schema(live, schema(ty)) >> (h / 0x100 % (BITS as u64))) % 2 == 1
 }

@@ -39,15 +39,7 @@ fn has_both(set: u64, m: u32, n: u32) -> bool
 pub fn share_set(t: &[u64], m: u32, n: u32) -> bool
     ensures { result ≡ share_set t.now m n }
 {
-    let all = count(Kind::SchemaInstance);
-    let mut s = 0;
-    while s < all {
-        if has_both(set_at(t, s), m, n) {
-            return true;
-        }
-        s += 1;
-    }
-    false
+    (0..count(Kind::SchemaInstance)).any(|s| has_both(set_at(t, s), m, n))
 }
 
 // The header of an instance.

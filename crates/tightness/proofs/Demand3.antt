@@ -28,8 +28,8 @@ use Rattle.history.specs.Remains.{remaining_if, remaining}
 use Rattle.history.specs.Live.{LiveModel, now}
 use Rattle.history.specs.Demand3.{Tells, Full, creation_of, Creates, ComesNext}
 use Rattle.history.proofs.Theorems.{tells, kept_tells, no_room, no_room_answered, next_number}
-use Rattle.chip.specs.declared.tray.Order.{Order}
-use Rattle.chip.specs.declared.tray.Result.{Result}
+use Rattle.state.specs.declared.state.Order.{Order}
+use Rattle.chip.specs.declared.tray.Reply.{Reply}
 use Rattle.chip.specs.Tray.{Trayed}
 use Rattle.tightness.specs.Trays.{TrayPost, Told}
 use Rattle.tightness.specs.Code.{Called, Run, then_tray}
@@ -64,7 +64,7 @@ module _ {begun : Chip} (fresh : Fresh begun) {calls : List Call} {chip : Chip} 
 
 -- **So it is of a tray, with no word more**: after one that is done on such a chip the tables hold what remains of all calls so far
 -- with those of its orders, each answered as its record in the row of answers tells.
-module _ {begun : Chip} (fresh : Fresh begun) {calls : List Call} {chip : Chip} {h : List Answered} (run : Run begun calls chip h) (orders : List Order) (row : List Result) (t : Trayed)
+module _ {begun : Chip} (fresh : Fresh begun) {calls : List Call} {chip : Chip} {h : List Answered} (run : Run begun calls chip h) (orders : List Order) (row : List Reply) (t : Trayed)
     (p : TrayPost orders row chip t) (d : t.answer.refusal ≡ done) (told : List Answered) (g : Told orders t.answers told) where
   pub code_tray_tells : Tells t.working (remaining (told ++ h))
   code_tray_tells = code_tells fresh (then_tray run orders row t p d told g)

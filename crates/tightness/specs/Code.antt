@@ -6,8 +6,8 @@ use Rattle.state.specs.declared.state.Session.{Session}
 use Rattle.state.specs.Refusals.{done}
 use Rattle.session.specs.Step.{Outcome, outcome}
 use Rattle.session.specs.Runs.{Call, Answered, Chip, left, answered_by}
-use Rattle.chip.specs.declared.tray.Order.{Order}
-use Rattle.chip.specs.declared.tray.Result.{Result}
+use Rattle.state.specs.declared.state.Order.{Order}
+use Rattle.chip.specs.declared.tray.Reply.{Reply}
 use Rattle.chip.specs.Tray.{Trayed, asked}
 use Rattle.tightness.specs.Trays.{TrayPost, left_by, Told}
 use Rattle.session.proofs.call.call.Reads as session-call
@@ -44,9 +44,9 @@ pub data Run (begun : Chip) : List Call → Chip → List Answered → Type 0 wh
       → (q : Call) (o : Outcome) → Called q chip o
       → Run begun (q ∷ calls) (left o) (answered_by q o ∷ h)
   then_tray : {calls : List Call} {chip : Chip} {h : List Answered} → Run begun calls chip h
-      → (orders : List Order) (row : List Result) (t : Trayed) → TrayPost orders row chip t → t.answer.refusal ≡ done
+      → (orders : List Order) (row : List Reply) (t : Trayed) → TrayPost orders row chip t → t.answer.refusal ≡ done
       → (told : List Answered) → Told orders t.answers told
       → Run begun (asked orders ++ calls) (left_by t) (told ++ h)
   then_refused : {calls : List Call} {chip : Chip} {h : List Answered} → Run begun calls chip h
-      → (orders : List Order) (row : List Result) (t : Trayed) → TrayPost orders row chip t → (t.answer.refusal ≡ done → ⊥)
+      → (orders : List Order) (row : List Reply) (t : Trayed) → TrayPost orders row chip t → (t.answer.refusal ≡ done → ⊥)
       → Run begun calls (left_by t) h

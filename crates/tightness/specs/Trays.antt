@@ -8,8 +8,8 @@ use types.Logic.{Logic}
 use contract.Monad.{fact}
 use Rattle.state.specs.Refusals.{done}
 use Rattle.session.specs.Runs.{Call, Answered, Chip, chip_of, left, answered_by, outcome_of, after_by, history_by, after, history}
-use Rattle.chip.specs.declared.tray.Order.{Order}
-use Rattle.chip.specs.declared.tray.Result.{Result}
+use Rattle.state.specs.declared.state.Order.{Order}
+use Rattle.chip.specs.declared.tray.Reply.{Reply}
 use Rattle.chip.specs.Tray.{Trayed, trayed, asked, result_of, results, all_taken, none_taken, tray}
 use Rattle.chip.proofs.Laws.Tray.{history_length, asked_length, results_length}
 use Rattle.chip.specs.contracts.tray.chip_tray as chip-tray
@@ -17,7 +17,7 @@ use Rattle.chip.specs.contracts.tray.chip_tray as chip-tray
 -- ---- the contract
 
 -- a row of orders, a row for the answers and a chip were handed over, and this came of it
-abbrev pub TrayPost : List Order → List Result → Chip → Trayed → Type 0
+abbrev pub TrayPost : List Order → List Reply → Chip → Trayed → Type 0
 TrayPost orders row chip t = t ≡ tray orders row chip
 
 -- **That is what the source of `chip_tray` ensures.** `ensures-1` is its contract, of what was handed over, of the values at
@@ -31,7 +31,7 @@ pub tray_contract : {M : Type 1} {𝓤 : Ura M} (𝓛 : Logic 𝓤) (κs : _) (m
 tray_contract 𝓛 κs mem run orders answers x working kept orders' answers' x' working' kept' r = refl
 
 -- **Two outcomes that meet it for one input are the same.**
-pub chip_tray_one : (orders : List Order) (row : List Result) (chip : Chip) (t t' : Trayed) → TrayPost orders row chip t → TrayPost orders row chip t' → t ≡ t'
+pub chip_tray_one : (orders : List Order) (row : List Reply) (chip : Chip) (t t' : Trayed) → TrayPost orders row chip t → TrayPost orders row chip t' → t ≡ t'
 chip_tray_one orders row chip t t' p q = p ∙ sym q
 
 -- ---- a tray is a piece of a run
@@ -41,12 +41,12 @@ abbrev pub left_by : Trayed → Chip
 left_by t = chip_of t.answer.session t.working t.kept
 
 -- the orders of a row, each with its record in the row of answers
-pub record Told (orders : List Order) (answers : List Result) (told : List Answered) : Type 0 where
+pub record Told (orders : List Order) (answers : List Reply) (told : List Answered) : Type 0 where
   pub calls : map (λ (x : Answered). x.call) told ≡ asked orders
   pub records : results told ≡ take (length orders) answers
 
 -- a call and a record of it make up what was answered
-abbrev made : Call → Result → Answered
+abbrev made : Call → Reply → Answered
 made q r = record { call = q; refusal = r.refusal; place = r.place; value = r.value }
 
 same_answered : (x y : Answered) → x.call ≡ y.call → result_of x ≡ result_of y → x ≡ y
@@ -76,7 +76,7 @@ history_more begun (q ∷ later) earlier =
     ap (λ (chip : Chip). answered_by q (outcome_of chip q) ∷ (history (after begun earlier) later ++ history begun earlier)) (after_more_lem begun later earlier)
     ∙ ap (λ (h : List Answered). answered_by q (outcome_of (after begun (later ++ earlier)) q) ∷ h) (history_more begun later earlier)
 
-module _ (orders : List Order) (row : List Result) (chip : Chip) (t : Trayed) (p : TrayPost orders row chip t) where
+module _ (orders : List Order) (row : List Reply) (chip : Chip) (t : Trayed) (p : TrayPost orders row chip t) where
   -- by whether the row of answers was long enough
   by_length : (b : Bool) → leb (length orders) (length row) ≡ b → t ≡ cond b (all_taken orders row chip) (none_taken row chip)
   unfolding tray

@@ -4,7 +4,11 @@
 use Rattle.std.specs.Prelude.{◌≡◌}
 use Rattle.std.proofs.Common.{sym, ◌∙◌}
 use Rattle.session.specs.Step.{outcome}
-use Rattle.session.specs.Quick.Served.{serving, lending}
+use Rattle.session.specs.Quick.Served.{serving, served}
+use Rattle.session.specs.Laws.Served.{given_one}
+use Rattle.state.specs.Laws.Numbers.{place_number_one, numbers_one}
+use Rattle.checks.specs.Laws.Checks.{asks_one}
+use Rattle.dictionary.proofs.Laws.Numbers.{type_at_one}
 use Rattle.words.proofs.layout.base.Reads as words-layout-base
 use Rattle.words.proofs.layout.stride.Reads as words-layout-stride
 use Rattle.words.proofs.layout.count.Reads as words-layout-count
@@ -43,6 +47,8 @@ use Rattle.words.proofs.copies.is_long.Reads as words-copies-is-long
 use Rattle.words.proofs.copies.agree.Reads as words-copies-agree
 use Rattle.words.proofs.copies.copy.Reads as words-copies-copy
 use Rattle.dictionary.proofs.types.is_type.Reads as dictionary-types-is-type
+use Rattle.dictionary.proofs.types.TypeTryFromU32.try_from.Reads as dictionary-types-type-try-from
+use Rattle.dictionary.proofs.types.U32FromType.from.Reads as dictionary-types-u32-from
 use Rattle.dictionary.proofs.types.name.Reads as dictionary-types-name
 use Rattle.dictionary.proofs.types.schema.Reads as dictionary-types-schema
 use Rattle.dictionary.proofs.kinds.attributes.Reads as dictionary-kinds-attributes
@@ -69,21 +75,20 @@ use Rattle.tables.proofs.view.is_set.Reads as tables-view-is-set
 use Rattle.tables.proofs.view.value_at.Reads as tables-view-value-at
 use Rattle.state.proofs.events.blank_log.Reads as state-events-blank-log
 use Rattle.state.proofs.events.noted.Reads as state-events-noted
-use Rattle.state.proofs.lent.sets_of.Reads as state-lent-sets-of
-use Rattle.state.proofs.lent.marks_of.Reads as state-lent-marks-of
-use Rattle.state.proofs.lent.state_of.Reads as state-lent-state-of
-use Rattle.state.proofs.refusals.on.Reads as state-refusals-on
-use Rattle.state.proofs.refusals.number_in.Reads as state-refusals-number-in
-use Rattle.state.proofs.refusals.place_in.Reads as state-refusals-place-in
+use Rattle.state.proofs.refusals.Refusal.on.Reads as state-refusals-on
+use Rattle.state.proofs.refusals.U8FromRefusal.from.Reads as state-refusals-number
+use Rattle.state.proofs.refusals.U8FromPlace.from.Reads as state-refusals-place-number
+use Rattle.state.proofs.refusals.RefusalTryFromU16.try_from.Reads as state-refusals-refusal-try-from
+use Rattle.state.proofs.state.U32FromTransaction.from.Reads as state-state-transaction-number
 use Rattle.state.proofs.refusals.room_of.Reads as state-refusals-room-of
-use Rattle.state.proofs.state.is_open.Reads as state-state-is-open
-use Rattle.state.proofs.state.under.Reads as state-state-under
-use Rattle.state.proofs.state.with_recording.Reads as state-state-with-recording
-use Rattle.state.proofs.state.with_transaction.Reads as state-state-with-transaction
-use Rattle.state.proofs.state.with_repositories.Reads as state-state-with-repositories
-use Rattle.state.proofs.state.with_access.Reads as state-state-with-access
-use Rattle.state.proofs.state.woken.Reads as state-state-woken
-use Rattle.state.proofs.state.ended.Reads as state-state-ended
+use Rattle.state.proofs.state.State.is_open.Reads as state-state-is-open
+use Rattle.state.proofs.state.State.under.Reads as state-state-under
+use Rattle.state.proofs.state.State.with_recording.Reads as state-state-with-recording
+use Rattle.state.proofs.state.State.with_transaction.Reads as state-state-with-transaction
+use Rattle.state.proofs.state.State.with_repositories.Reads as state-state-with-repositories
+use Rattle.state.proofs.state.State.with_access.Reads as state-state-with-access
+use Rattle.state.proofs.state.State.woken.Reads as state-state-woken
+use Rattle.state.proofs.state.State.ended.Reads as state-state-ended
 use Rattle.state.proofs.state.closed_state.Reads as state-state-closed-state
 use Rattle.state.proofs.state.opened_state.Reads as state-state-opened-state
 use Rattle.state.proofs.state.answer_of.Reads as state-state-answer-of
@@ -101,7 +106,7 @@ use Rattle.checks.proofs.conditions.no_type.Reads as checks-conditions-no-type
 use Rattle.checks.proofs.conditions.types_differ.Reads as checks-conditions-types-differ
 use Rattle.checks.proofs.conditions.wrong_type.Reads as checks-conditions-wrong-type
 use Rattle.checks.proofs.conditions.apart.Reads as checks-conditions-apart
-use Rattle.checks.proofs.shared.first.Reads as checks-shared-first
+use Rattle.checks.proofs.shared.refuse_if.Reads as checks-shared-refuse-if
 use Rattle.checks.proofs.shared.in_reach.Reads as checks-shared-in-reach
 use Rattle.checks.proofs.shared.writable.Reads as checks-shared-writable
 use Rattle.checks.proofs.shared.accessed.Reads as checks-shared-accessed
@@ -111,7 +116,6 @@ use Rattle.session.proofs.answers.log_stays.Reads as session-answers-log-stays
 use Rattle.session.proofs.answers.carried.Reads as session-answers-carried
 use Rattle.session.proofs.answers.finished.Reads as session-answers-finished
 use Rattle.session.proofs.call.serve.Reads as session-call-serve
-use Rattle.session.proofs.call.serve_lent.Reads as session-call-serve-lent
 use Rattle.session.proofs.call.core.Reads as session-call-core
 use Rattle.session.proofs.call.is_sound.Reads as session-call-is-sound
 use Rattle.session.proofs.call.call.Reads as session-call-call
@@ -237,6 +241,12 @@ words_copies_copy_one κs a x y s s' p q = p ∙ sym q
 
 -- ---- dictionary
 
+pub dictionary_types_type_try_from_one : (κs : _) (a : _) (x y : _) (s s' : _) → dictionary-types-type-try-from.Post κs a x s → dictionary-types-type-try-from.Post κs a y s' → x ≡ y
+dictionary_types_type_try_from_one κs a x y s s' p q = type_at_one _ x y p q
+
+pub dictionary_types_u32_from_one : (κs : _) (a : _) (x y : _) (s s' : _) → dictionary-types-u32-from.Post κs a x s → dictionary-types-u32-from.Post κs a y s' → x ≡ y
+dictionary_types_u32_from_one κs a x y s s' p q = p ∙ sym q
+
 pub dictionary_types_is_type_one : (κs : _) (a : _) (x y : _) (s s' : _) → dictionary-types-is-type.Post κs a x s → dictionary-types-is-type.Post κs a y s' → x ≡ y
 dictionary_types_is_type_one κs a x y s s' p q = p ∙ sym q
 
@@ -322,26 +332,23 @@ state_events_blank_log_one κs a x y s s' p q = p ∙ sym q
 pub state_events_noted_one : (κs : _) (a : _) (x y : _) (s s' : _) → state-events-noted.Post κs a x s → state-events-noted.Post κs a y s' → x ≡ y
 state_events_noted_one κs a x y s s' p q = p ∙ sym q
 
-pub state_lent_sets_of_one : (κs : _) (a : _) (x y : _) (s s' : _) → state-lent-sets-of.Post κs a x s → state-lent-sets-of.Post κs a y s' → x ≡ y
-state_lent_sets_of_one κs a x y s s' p q = p ∙ sym q
-
-pub state_lent_marks_of_one : (κs : _) (a : _) (x y : _) (s s' : _) → state-lent-marks-of.Post κs a x s → state-lent-marks-of.Post κs a y s' → x ≡ y
-state_lent_marks_of_one κs a x y s s' p q = p ∙ sym q
-
-pub state_lent_state_of_one : (κs : _) (a : _) (x y : _) (s s' : _) → state-lent-state-of.Post κs a x s → state-lent-state-of.Post κs a y s' → x ≡ y
-state_lent_state_of_one κs a x y s s' p q = p ∙ sym q
-
 pub state_refusals_on_one : (κs : _) (a : _) (x y : _) (s s' : _) → state-refusals-on.Post κs a x s → state-refusals-on.Post κs a y s' → x ≡ y
 state_refusals_on_one κs a x y s s' p q = p ∙ sym q
 
-pub state_refusals_number_in_one : (κs : _) (a : _) (x y : _) (s s' : _) → state-refusals-number-in.Post κs a x s → state-refusals-number-in.Post κs a y s' → x ≡ y
-state_refusals_number_in_one κs a x y s s' p q = p ∙ sym q
+pub state_refusals_number_one : (κs : _) (a : _) (x y : _) (s s' : _) → state-refusals-number.Post κs a x s → state-refusals-number.Post κs a y s' → x ≡ y
+state_refusals_number_one κs a x y s s' p q = p ∙ sym q
 
-pub state_refusals_place_in_one : (κs : _) (a : _) (x y : _) (s s' : _) → state-refusals-place-in.Post κs a x s → state-refusals-place-in.Post κs a y s' → x ≡ y
-state_refusals_place_in_one κs a x y s s' p q = p ∙ sym q
+pub state_refusals_place_number_one : (κs : _) (a : _) (x y : _) (s s' : _) → state-refusals-place-number.Post κs a x s → state-refusals-place-number.Post κs a y s' → x ≡ y
+state_refusals_place_number_one κs a x y s s' p q = p ∙ sym q
+
+pub state_refusals_refusal_try_from_one : (κs : _) (a : _) (x y : _) (s s' : _) → state-refusals-refusal-try-from.Post κs a x s → state-refusals-refusal-try-from.Post κs a y s' → x ≡ y
+state_refusals_refusal_try_from_one κs a x y s s' p q = numbers_one _ x y p q
+
+pub state_state_transaction_number_one : (κs : _) (a : _) (x y : _) (s s' : _) → state-state-transaction-number.Post κs a x s → state-state-transaction-number.Post κs a y s' → x ≡ y
+state_state_transaction_number_one κs a x y s s' p q = p ∙ sym q
 
 pub state_refusals_room_of_one : (κs : _) (a : _) (x y : _) (s s' : _) → state-refusals-room-of.Post κs a x s → state-refusals-room-of.Post κs a y s' → x ≡ y
-state_refusals_room_of_one κs a x y s s' p q = p ∙ sym q
+state_refusals_room_of_one κs a x y s s' p q = place_number_one x y (p ∙ sym q)
 
 pub state_state_is_open_one : (κs : _) (a : _) (x y : _) (s s' : _) → state-state-is-open.Post κs a x s → state-state-is-open.Post κs a y s' → x ≡ y
 state_state_is_open_one κs a x y s s' p q = p ∙ sym q
@@ -420,20 +427,20 @@ checks_conditions_wrong_type_one κs a x y s s' p q = p ∙ sym q
 pub checks_conditions_apart_one : (κs : _) (a : _) (x y : _) (s s' : _) → checks-conditions-apart.Post κs a x s → checks-conditions-apart.Post κs a y s' → x ≡ y
 checks_conditions_apart_one κs a x y s s' p q = p ∙ sym q
 
-pub checks_shared_first_one : (κs : _) (a : _) (x y : _) (s s' : _) → checks-shared-first.Post κs a x s → checks-shared-first.Post κs a y s' → x ≡ y
-checks_shared_first_one κs a x y s s' p q = p ∙ sym q
+pub checks_shared_refuse_if_one : (κs : _) (a : _) (x y : _) (s s' : _) → checks-shared-refuse-if.Post κs a x s → checks-shared-refuse-if.Post κs a y s' → x ≡ y
+checks_shared_refuse_if_one κs a x y s s' p q = asks_one _ x y p q
 
 pub checks_shared_in_reach_one : (κs : _) (a : _) (x y : _) (s s' : _) → checks-shared-in-reach.Post κs a x s → checks-shared-in-reach.Post κs a y s' → x ≡ y
-checks_shared_in_reach_one κs a x y s s' p q = p ∙ sym q
+checks_shared_in_reach_one κs a x y s s' p q = asks_one _ x y p q
 
 pub checks_shared_writable_one : (κs : _) (a : _) (x y : _) (s s' : _) → checks-shared-writable.Post κs a x s → checks-shared-writable.Post κs a y s' → x ≡ y
-checks_shared_writable_one κs a x y s s' p q = p ∙ sym q
+checks_shared_writable_one κs a x y s s' p q = asks_one _ x y p q
 
 pub checks_shared_accessed_one : (κs : _) (a : _) (x y : _) (s s' : _) → checks-shared-accessed.Post κs a x s → checks-shared-accessed.Post κs a y s' → x ≡ y
-checks_shared_accessed_one κs a x y s s' p q = p ∙ sym q
+checks_shared_accessed_one κs a x y s s' p q = asks_one _ x y p q
 
 pub checks_gate_gate_one : (κs : _) (a : _) (x y : _) (s s' : _) → checks-gate-gate.Post κs a x s → checks-gate-gate.Post κs a y s' → x ≡ y
-checks_gate_gate_one κs a x y s s' p q = p ∙ sym q
+checks_gate_gate_one κs a x y s s' p q = asks_one _ x y p q
 
 -- ---- session
 
@@ -450,13 +457,9 @@ pub session_answers_finished_one : (κs : _) (a : _) (x y : _) (s s' : _) → se
 session_answers_finished_one κs a x y s s' p q = p ∙ sym q
 
 pub session_call_serve_one : (κs : _) (a : _) (x y : _) (s s' : _) → session-call-serve.Post κs a x s → session-call-serve.Post κs a y s'
-    → serving x s.1.1.1.1.1.0.now s.1.1.1.1.1.1.0.now ≡ serving y s'.1.1.1.1.1.0.now s'.1.1.1.1.1.1.0.now
-session_call_serve_one κs a x y s s' p q = p ∙ sym q
-
-pub session_call_serve_lent_one : (κs : _) (a : _) (x y : _) (s s' : _) → session-call-serve-lent.Post κs a x s → session-call-serve-lent.Post κs a y s'
-    → lending x s.1.1.1.1.1.1.0.now s.1.1.1.1.1.1.1.0.now s.1.1.1.1.0.now s.1.1.1.1.1.0.now
-    ≡ lending y s'.1.1.1.1.1.1.0.now s'.1.1.1.1.1.1.1.0.now s'.1.1.1.1.0.now s'.1.1.1.1.1.0.now
-session_call_serve_lent_one κs a x y s s' p q = p ∙ sym q
+    → (x ≡ y)
+    × (serving (served x s.1.0.now) s.1.1.0.now s.1.1.1.0.now ≡ serving (served y s'.1.0.now) s'.1.1.0.now s'.1.1.1.0.now)
+session_call_serve_one κs a x y s s' p q = (given_one x y _ _ _ _ _ _ (p ∙ sym q), p ∙ sym q)
 
 pub session_call_core_one : (κs : _) (a : _) (x y : _) (s s' : _) → session-call-core.Post κs a x s → session-call-core.Post κs a y s'
     → outcome x s.1.1.1.1.1.0.now s.1.1.1.1.1.1.0.now ≡ outcome y s'.1.1.1.1.1.0.now s'.1.1.1.1.1.1.0.now

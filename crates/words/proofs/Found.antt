@@ -1,6 +1,7 @@
 -- What a search over entries finds. This stands here, and not with the other laws, so that a definition that passes over an
 -- entry is refused here (must-fail/search_skips_the_last.edit).
-use Rattle.std.specs.Prelude.{◌≡◌, ◌⊎◌, Bool, cond}
+use Rattle.std.specs.Prelude.{◌≡◌, ◌⊎◌, Bool, cond, Option, Some, None, unwrap_or}
+use Rattle.std.specs.Option.{MatchOption}
 use Rattle.std.proofs.Math.Path.{refl}
 use Rattle.std.proofs.Common.{⊎_elim, arith}
 use Rattle.std.proofs.Math.Bool.{true, false}
@@ -12,6 +13,7 @@ use borrow.Author.Tests.{ltb-true, ltb-false, le-ltb}
 use Rattle.words.specs.declared.layout.Kind.{Kind}
 use Rattle.words.specs.Layout.{count_of}
 use Rattle.words.specs.Entries.{cursor_in, free_at, first_free, next_free}
+use Rattle.words.specs.Quick.Numbered.{numbered}
 use Rattle.logic.specs.Laws.Search.{First, first, not_passed_over}
 
 module _ (t : List ℕ) (kind : Kind) (from : ℕ) (within : from ≤ count_of kind) where
@@ -110,3 +112,24 @@ module _ (t : List ℕ) (kind : Kind) where
       (λ from. free_before t kind (cursor_in t kind) (omega arith) j from (omega arith))
       (λ before. free_before t kind 0 (omega arith) j (omega arith) before))
       behind
+
+  -- so with numbers that the kind has
+  pub next_numbered : (from : ℕ) → from ≡ min (cursor_in t kind) (count_of kind) → (r : Option ℕ)
+      → MatchOption (numbered kind (first_free t kind from)) (r ≡ numbered kind (first_free t kind 0)) (λ n. r ≡ Some n) → r ≡ numbered kind (next_free t kind)
+  next_numbered from e r h = rw (← next_from from e) (by_cases (ltb (first_free t kind from) (count_of kind)) refl h)
+    where
+      by_cases : (b : Bool) → ltb (first_free t kind from) (count_of kind) ≡ b → MatchOption (cond b (Some (first_free t kind from)) None) (r ≡ numbered kind (first_free t kind 0)) (λ n. r ≡ Some n)
+          → r ≡ numbered kind (cond b (first_free t kind from) (first_free t kind 0))
+      by_cases true l h = rw l h
+      by_cases false l h = h
+
+  next_within : next_free t kind ≤ count_of kind
+  next_within = next_by (λ n. n ≤ count_of kind) (λ l. omega arith) (λ l. free_within t kind 0 (omega arith))
+
+  -- no number is lost in them: where the kind has none, it is the count
+  pub next_kept : unwrap_or (numbered kind (next_free t kind)) (count_of kind) ≡ next_free t kind
+  next_kept = by_cases (ltb (next_free t kind) (count_of kind)) refl
+    where
+      by_cases : (b : Bool) → ltb (next_free t kind) (count_of kind) ≡ b → unwrap_or (cond b (Some (next_free t kind)) None) (count_of kind) ≡ next_free t kind
+      by_cases true e = refl
+      by_cases false e = omega (arith, next_within, ltb-false _ _ e)

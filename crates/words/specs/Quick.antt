@@ -1,2 +1,3 @@
--- What only the quick code asks for. No promise is about these.
+-- What only the code asks for. No promise of the chip is about these.
 pub mod Present
+pub mod Numbered

@@ -1,5 +1,6 @@
 // Reading and writing the words of an entry, and the cursor of a kind. A number past the last entry reads as free, and
-// writing there changes nothing.
+// writing there changes nothing. An entry goes by its kind and its number, as in the theorems: a struct of both would be made at
+// each call only to be taken apart in it.
 ghost use Rattle.std.specs.Prelude.{◌≡◌, ◌<◌, length, get_or, set};
 ghost use Rattle.words.specs.Layout.{count_of, place_of};
 ghost use Rattle.words.specs.Entries.{in_entry, word_of, with_word, cursor_in, one_past, with_words, with_entry, without_entry};
@@ -10,10 +11,11 @@ use crate::layout::{Kind, base, count, cursor, place, stride};
 fn get(t: &[u64], at: usize) -> u64
     ensures { result ≡ get_or t.now at 0 }
 {
-    if at < t.len() { t[at] } else { 0 }
+    t.get(at).copied().unwrap_or(0)
 }
 
-// The one place where a word of a table is written, but for the copy of a whole table.
+// The one place where a word of a table is written, but for the copy of a whole table. `get_mut` does not say that the other
+// words stand, so the proof of an `if let` over it does not close.
 fn put(t: &mut [u64], at: usize, w: u64)
     ensures { t.new ≡ set t.old at w }
 {
@@ -26,7 +28,7 @@ fn put(t: &mut [u64], at: usize, w: u64)
 fn in_entry(kind: Kind, i: u32, k: u32) -> bool
     ensures { result ≡ in_entry kind i k }
 {
-    (i < count(kind)) & ((k as usize) < stride(kind))
+    i < count(kind) && (k as usize) < stride(kind)
 }
 
 // Word k of entry i.
@@ -44,17 +46,8 @@ pub fn read(t: &[u64], kind: Kind, i: u32, k: u32) -> u64
 pub fn present(t: &[u64], kind: Kind) -> u32
     ensures { (result ≡ present_in kind (length t.now)) × Present t.now kind result }
 {
-    let n = t.len();
-    let from = base(kind);
-    if n <= from {
-        return 0;
-    }
-    let all = count(kind);
-    let reached = (n - from - 1) / stride(kind) + 1;
-    if reached < (all as usize) {
-        return reached as u32;
-    }
-    all
+    let reached = t.len().saturating_sub(base(kind)).div_ceil(stride(kind));
+    reached.min(count(kind) as usize) as u32
 }
 
 // The first word of such an entry.
@@ -92,13 +85,10 @@ fn one_past(kind: Kind, i: u32) -> u32
 fn fill(t: &mut [u64], kind: Kind, i: u32, first: u64)
     ensures { t.new ≡ with_words t.old kind i first }
 {
-    let n = stride(kind);
     let mut w = first;
-    let mut k = 0;
-    while k < n {
-        write(t, kind, i, k as u32, w);
+    for k in 0..stride(kind) as u32 {
+        write(t, kind, i, k, w);
         w = 0;
-        k += 1;
     }
 }
 
@@ -107,7 +97,7 @@ pub fn make(t: &mut [u64], kind: Kind, i: u32, first: u64)
     ensures { t.new ≡ with_entry t.old kind i first }
 {
     fill(t, kind, i, first);
-    put(t, cursor(kind), one_past(kind, i) as u64);
+    put(t, cursor(kind), u64::from(one_past(kind, i)));
 }
 
 // Entry i is free again. The cursor stays: a deletion does not bring its number nearer.

@@ -1,6 +1,6 @@
 // The fields of the words: the label of a model or a schema instance, the header of an instance.
-ghost use Rattle.std.specs.Prelude.{◌≡◌};
-ghost use Rattle.words.specs.Fields.{label_of, name_in, repository_in, schema_in, is_schema, is_label, header_of, type_in, model_in, flagged, with_flag, without_flag, value_in, is_free, is_named};
+ghost use Rattle.std.specs.Prelude.{◌≡◌, ◌+◌, ◌<◌, ◌/◌, ◌%◌, cond, ltb, Some, None};
+ghost use Rattle.words.specs.Fields.{label_of, name_in, repository_in, schema_in, is_schema, is_label, header_of, type_in, model_in, flagged, with_flag, without_flag, values, value_in, is_free, is_named};
 
 use crate::sets;
 
@@ -16,35 +16,51 @@ pub const FLAGS: u32 = 16;
 pub fn label(repository: u32, schema: u32, name: u32) -> u64
     ensures { result ≡ label_of repository schema name }
 {
-    (name as u64)
-        + 0x1_0000_0000 * ((repository % 256) as u64)
-        + 0x100_0000_0000 * ((schema % 256) as u64)
+    u64::from(name)
+        + 0x1_0000_0000 * u64::from(repository % 256)
+        + 0x100_0000_0000 * u64::from(schema % 256)
+}
+
+// The lower half of a word.
+fn half(w: u64) -> u32
+    ensures { result ≡ w % 0x1_0000_0000 }
+{
+    (w % 0x1_0000_0000) as u32
+}
+
+// Eight bits of a word, the lowest of them worth UNIT.
+fn byte<const UNIT: u64>(w: u64) -> u32
+    requires { 0 < UNIT }
+    ensures { result ≡ w / UNIT % 256 }
+{
+    (w / UNIT % 256) as u32
 }
 
 pub fn name_in(label: u64) -> u32
     ensures { result ≡ name_in label }
 {
-    (label % 0x1_0000_0000) as u32
+    half(label)
 }
 
 pub fn repository_in(label: u64) -> u32
     ensures { result ≡ repository_in label }
 {
-    (label / 0x1_0000_0000 % 256) as u32
+    byte::<0x1_0000_0000>(label)
 }
 
 pub fn schema_in(label: u64) -> u32
     ensures { result ≡ schema_in label }
 {
-    (label / 0x100_0000_0000 % 256) as u32
+    byte::<0x100_0000_0000>(label)
 }
 
 pub fn is_schema(schema: u32) -> bool
     ensures { result ≡ is_schema schema }
 {
-    (1 <= schema) & (schema <= 2)
+    matches!(schema, 1..=2)
 }
 
+// Tried with `&&`: get in RO 0.59 to 0.61 of C.
 pub fn is_label(w: u64) -> bool
     ensures { result ≡ is_label w }
 {
@@ -55,9 +71,10 @@ pub fn is_label(w: u64) -> bool
 pub fn header(ty: u32, model: u32, flags: u32) -> u64
     ensures { result ≡ header_of ty model flags }
 {
-    1 + ((ty % 256) as u64) + 0x100 * ((model % 256) as u64) + 0x1_0000 * ((flags % 256) as u64)
+    1 + u64::from(ty % 256) + 0x100 * u64::from(model % 256) + 0x1_0000 * u64::from(flags % 256)
 }
 
+// Tried as `saturating_sub`: get in RO 0.59 to 0.75 of C.
 pub fn type_in(header: u64) -> u32
     ensures { result ≡ type_in header }
 {
@@ -68,45 +85,40 @@ pub fn type_in(header: u64) -> u32
 pub fn model_in(header: u64) -> u32
     ensures { result ≡ model_in header }
 {
-    (header / 0x100 % 256) as u32
+    byte::<0x100>(header)
+}
+
+// The bit of flag k, where there is such a flag.
+fn flag(k: u32) -> Option<u32>
+    ensures { result ≡ cond (ltb k values) (Some (16 + k)) None }
+{
+    (k < VALUES).then(|| FLAGS + k)
 }
 
 // Whether attribute k is set.
 pub fn is_flagged(header: u64, k: u32) -> bool
     ensures { result ≡ flagged header k }
 {
-    if k < VALUES {
-        sets::has(header, FLAGS + k)
-    } else {
-        false
-    }
+    flag(k).is_some_and(|m| sets::has(header, m))
 }
 
 pub fn with_flag(header: u64, k: u32) -> u64
     ensures { result ≡ with_flag header k }
 {
-    if k < VALUES {
-        sets::with(header, FLAGS + k)
-    } else {
-        header
-    }
+    flag(k).map_or(header, |m| sets::with(header, m))
 }
 
 pub fn without_flag(header: u64, k: u32) -> u64
     ensures { result ≡ without_flag header k }
 {
-    if k < VALUES {
-        sets::without(header, FLAGS + k)
-    } else {
-        header
-    }
+    flag(k).map_or(header, |m| sets::without(header, m))
 }
 
 // What a value word says.
 pub fn value_in(w: u64) -> u32
     ensures { result ≡ value_in w }
 {
-    (w % 0x1_0000_0000) as u32
+    half(w)
 }
 
 pub fn is_free(w: u64) -> bool
@@ -119,5 +131,5 @@ pub fn is_free(w: u64) -> bool
 pub fn is_named(w: u64, repository: u32, name: u32) -> bool
     ensures { result ≡ is_named w repository name }
 {
-    (w != 0) & (w % 0x100_0000_0000 == (name as u64) + 0x1_0000_0000 * (repository as u64))
+    w != 0 && w % 0x100_0000_0000 == u64::from(name) + 0x1_0000_0000 * u64::from(repository)
 }

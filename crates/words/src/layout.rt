@@ -6,7 +6,7 @@ ghost use Rattle.words.specs.Layout.{row_of, base_of, stride_of, count_of, place
 // The words in use. Words from here on are never read or written.
 pub const WORDS: usize = 739;
 
-#[derive(Clone, Copy)]
+#[derive(Clone, Copy, Debug, PartialEq, Eq)]
 pub enum Kind {
     Model,
     SchemaInstance,
@@ -14,7 +14,7 @@ pub enum Kind {
 }
 
 // The first word of the kind's entry 0, how many words an entry has, how many entries there are, and the word of the cursor.
-#[derive(Clone, Copy)]
+#[derive(Clone, Copy, Debug, PartialEq, Eq)]
 pub struct Row {
     pub base: usize,
     pub stride: usize,

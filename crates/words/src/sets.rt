@@ -1,4 +1,5 @@
-// Sets of models in one word, bit m for model m. A number from 64 on is in no set.
+// Sets of models in one word, bit m for model m. A number from 64 on is in no set. A set is a plain word and no type of its own,
+// since the session that C hands over holds it so.
 ghost use Rattle.std.specs.Prelude.{◌≡◌, eqb};
 ghost use Rattle.words.specs.Sets.{none, has as has_bit, insert, remove, size_of};
 
@@ -10,7 +11,7 @@ pub const BITS: u32 = 64;
 pub fn has(set: u64, m: u32) -> bool
     ensures { result ≡ has_bit set m }
 {
-    if m < BITS { (set >> m) % 2 == 1 } else { false }
+    m < BITS && (set >> m) % 2 == 1
 }
 
 pub fn with(set: u64, m: u32) -> u64
@@ -22,11 +23,7 @@ pub fn with(set: u64, m: u32) -> u64
 pub fn without(set: u64, m: u32) -> u64
     ensures { result ≡ remove set m }
 {
-    if m < BITS {
-        set - (set & (1 << m))
-    } else {
-        set
-    }
+    if m < BITS { set & !(1 << m) } else { set }
 }
 
 pub fn is_empty(set: u64) -> bool
@@ -39,5 +36,5 @@ pub fn is_empty(set: u64) -> bool
 pub fn size(set: u64) -> u32
     ensures { result ≡ size_of set }
 {
-    u64::count_ones(set)
+    set.count_ones()
 }

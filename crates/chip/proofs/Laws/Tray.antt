@@ -13,8 +13,8 @@ use Rattle.session.specs.Sound.{sound}
 use Rattle.session.specs.Step.{step}
 use Rattle.session.specs.Runs.{Call, Answered, Chip, chip_of, left, answered_by, outcome_of, after_by, history_by, after, history}
 use Rattle.promises.proofs.Stays.{soundness_told}
-use Rattle.chip.specs.declared.tray.Order.{Order}
-use Rattle.chip.specs.declared.tray.Result.{Result}
+use Rattle.state.specs.declared.state.Order.{Order}
+use Rattle.chip.specs.declared.tray.Reply.{Reply}
 use Rattle.chip.specs.Tray.{Trayed, trayed, call_of, asked, result_of, results, written, all_taken, none_taken, tray}
 use Rattle.chip.specs.Quick.Turns.{taken_of, turned, begun_with, turned_by, turn_of, Standing, no_order, stepped, standing}
 
@@ -44,12 +44,12 @@ pub results_length : (h : List Answered) → length (results h) ≡ length h
 results_length h = length-reverse (map result_of h) ∙ length-map h result_of
 
 -- one answer more is written where the row has come to
-written_next : (x : Answered) (h : List Answered) (answers : List Result) → length h < length answers → set (written h answers) (length h) (result_of x) ≡ written (x ∷ h) answers
+written_next : (x : Answered) (h : List Answered) (answers : List Reply) → length h < length answers → set (written h answers) (length h) (result_of x) ≡ written (x ∷ h) answers
 written_next x h answers l =
     let there = get_or answers (length h) (result_of x) in
-    ap (λ (rest : List Result). set (results h ++ rest) (length h) (result_of x)) (drop-cons answers (length h) (result_of x) l)
+    ap (λ (rest : List Reply). set (results h ++ rest) (length h) (result_of x)) (drop-cons answers (length h) (result_of x) l)
     ∙ set_at (results h) there (drop (suc (length h)) answers) (result_of x) (length h) (results_length h)
-    ∙ sym (ap (λ (front : List Result). front ++ drop (suc (length h)) answers) (reverse-cons (result_of x) (map result_of h))
+    ∙ sym (ap (λ (front : List Reply). front ++ drop (suc (length h)) answers) (reverse-cons (result_of x) (map result_of h))
     ∙ append_assoc (results h) (result_of x ∷ []) (drop (suc (length h)) answers))
 
 -- ---- turn by turn
@@ -65,13 +65,13 @@ abbrev history_at : List Order → Chip → ℕ → List Answered
 history_at orders begun i = history begun (asked (take i orders))
 
 -- what stands after the first i orders is that chip, their answers, and whether the state is sound
-pub record Stands (orders : List Order) (row : List Result) (begun : Chip) (i : ℕ) (z : Standing) : Type 0 where
+pub record Stands (orders : List Order) (row : List Reply) (begun : Chip) (i : ℕ) (z : Standing) : Type 0 where
   pub chip : chip_of z.after.turn.session z.after.working z.after.kept ≡ chip_at orders begun i
   pub answers : z.answers ≡ written (history_at orders begun i) row
   pub as_sound : sound_of (chip_at orders begun i) ≡ sound_of begun
   pub told : z.after.turn.sound ≡ sound_of begun
 
-module _ (orders : List Order) (row : List Result) (begun : Chip) where
+module _ (orders : List Order) (row : List Reply) (begun : Chip) where
   abbrev standing_at : ℕ → Standing
   standing_at i = standing i orders row (turned (begun_with begun.session begun.working begun.kept) begun.working begun.kept)
 
@@ -109,7 +109,7 @@ module _ (orders : List Order) (row : List Result) (begun : Chip) where
 
       answer_written : set z.answers i (result_of (given here)) ≡ written (given (chip_at orders begun i) ∷ history_here) row
       answer_written =
-          ap (λ (answers : List Result). set answers i (result_of (given here))) h.answers
+          ap (λ (answers : List Reply). set answers i (result_of (given here))) h.answers
           ∙ ap (λ (n : ℕ). set (written history_here row) n (result_of (given here))) (sym (here_length l))
           ∙ ap (λ (chip : Chip). set (written history_here row) (length history_here) (result_of (given chip))) h.chip
           ∙ written_next (given (chip_at orders begun i)) history_here row (omega (arith, here_length l))
@@ -135,7 +135,7 @@ module _ (orders : List Order) (row : List Result) (begun : Chip) where
 
 -- ---- the whole row
 
-module _ (orders : List Order) (row : List Result) (begun : Chip) where
+module _ (orders : List Order) (row : List Reply) (begun : Chip) where
   abbrev pub closed : Bool → Standing → Trayed
   closed b z = trayed (cond b (answer done 0 z.after.turn.session) (answer (SY_ERR on 0) 0 z.after.turn.session)) z.answers z.after.working z.after.kept
 
@@ -145,7 +145,7 @@ module _ (orders : List Order) (row : List Result) (begun : Chip) where
       let all = take-length orders in
       ap (λ (chip : Chip). trayed (answer done 0 chip.session) z.answers chip.working chip.kept) (h.chip ∙ ap (λ (l : List Order). after begun (asked l)) all)
       ∙ ap
-      (λ (l : List Result). trayed (answer done 0 (after begun (asked orders)).session) l (after begun (asked orders)).working (after begun (asked orders)).kept)
+      (λ (l : List Reply). trayed (answer done 0 (after begun (asked orders)).session) l (after begun (asked orders)).working (after begun (asked orders)).kept)
       (h.answers ∙ ap (λ (l : List Order). written (history begun (asked l)) row) all)
 
   -- the tray's own answer, and what stands after the orders that are taken

@@ -1,8 +1,8 @@
--- An unsound state is answered as it came. On a sound one the operation is served with the state lent, and the answer is that
--- of a log that stays, or of one that may change.
-use mathlib.Core.Path.{sym, ◌∙◌}
+-- An unsound state is answered as it came. On a sound one the operation is served, and the answer is that of a log that stays, or
+-- of one that may change.
+use Rattle.std.proofs.Common.{sym, ◌∙◌}
 use Rattle.session.specs.Step.{step}
-use Rattle.session.specs.Laws.Served.{lent_core, lent_carried}
+use Rattle.session.specs.Laws.Served.{served_core, served_stays}
 use Rattle.chip.proofs.chip_call.Goals as goal
 
 pub returns-then-not-is_sound : goal.returns-then-not-is_sound
@@ -17,14 +17,11 @@ returns-then-log_stays c =
     let tested = c.is_sound in
     let a = c.args in
     rw (← tested.ensures, c.if-not-is_sound.false, c.carried.ensures)
-    (lent_carried a.op _ _ _ a.x _ _ _ _ _ _ _ _ _ _ c.sets_of-sets.ensures c.marks_of-marks.ensures c.serve_lent-r.ensures
-    c.state_of-state.ensures (sym c.log_stays.ensures ∙ c.if-log_stays.true))
+    (served_stays a.op _ _ _ a.x _ _ _ _ _ c.serve-given.ensures (sym c.log_stays.ensures ∙ c.if-log_stays.true))
 
 pub returns : goal.returns
 unfolding step
 returns c =
     let tested = c.is_sound in
     let a = c.args in
-    rw (← tested.ensures, c.if-not-is_sound.false, c.finished.ensures)
-    (lent_core a.op _ _ _ a.x _ _ _ _ _ _ _ _ _ _ c.sets_of-sets.ensures c.marks_of-marks.ensures c.serve_lent-r.ensures
-    c.state_of-state.ensures)
+    rw (← tested.ensures, c.if-not-is_sound.false, c.finished.ensures) (served_core a.op _ _ _ a.x _ _ _ _ _ c.serve-given.ensures)

@@ -6,8 +6,8 @@ use Rattle.state.specs.Refusals.{SY_ERR, done, ◌on◌}
 use Rattle.state.specs.States.{answer}
 use Rattle.session.specs.Sound.{sound}
 use Rattle.session.specs.Step.{Outcome, judged}
-use Rattle.chip.specs.declared.tray.Order.{Order}
-use Rattle.chip.specs.declared.tray.Result.{Result}
+use Rattle.state.specs.declared.state.Order.{Order}
+use Rattle.chip.specs.declared.tray.Reply.{Reply}
 use Rattle.chip.specs.declared.tray.Turn.{Turn}
 
 -- how many orders of a row are taken, and the tray's own answer
@@ -41,7 +41,7 @@ turn_of o t w k = turned_by t.sound (judged t.sound o.op o.a o.b o.c t.session w
 
 -- what stands after the first i orders
 pub record Standing : Type 0 where
-  pub answers : List Result
+  pub answers : List Reply
   pub after : Turned
 
 -- an order that no row has, for the element behind the last
@@ -51,7 +51,7 @@ no_order = record { op = 0; a = 0; b = 0; c = 0 }
 abbrev pub stepped : ℕ → Turned → Standing → Standing
 stepped i y z = record { answers = set z.answers i y.turn.result; after = y }
 
-abbrev pub standing : ℕ → List Order → List Result → Turned → Standing
+abbrev pub standing : ℕ → List Order → List Reply → Turned → Standing
 standing zero orders answers begun = record { answers = answers; after = begun }
 standing (suc i) orders answers begun =
     let z = standing i orders answers begun in

@@ -1,8 +1,7 @@
 -- The reference of a type: there is one at most.
-use Rattle.std.specs.Prelude.{◌≡◌, refl, Bool, true, false, not, ◌||◌, ◌⊎◌, ℕ, ◌<◌, eqb, ltb}
+use Rattle.std.specs.Prelude.{◌≡◌, refl, Bool, true, false, not, ◌||◌, ◌⊎◌, ℕ, ◌<◌, eqb, ltb, None}
 use Rattle.std.proofs.Common.{sym, ◌∙◌, ap, ⊎_elim, arith, eqb-true, lt-ltb, ltb-true, ltb-false}
 use Rattle.std.proofs.lemmas.Bool.{false≢true}
-use Rattle.dictionary.specs.declared.answers.Attribute.TheVariants.{Lacking}
 use Rattle.logic.specs.Search.{all_b}
 use Rattle.logic.specs.Laws.Search.{all_at}
 use Rattle.logic.specs.Laws.Bools.{decided}
@@ -27,7 +26,7 @@ only_one : (t : ℕ) → is_type t ≡ true → all_b 3 (λ k. not (is_reference
 unfolding all_b reference_of the_table
 only_one t i = of_type (λ t. all_b 3 (λ k. not (is_reference (attribute_of t k)) || eqb k (reference_of t))) refl t i
 
-reference_there : (t k : ℕ) → is_reference (attribute_of t k) ≡ true → attribute_of t k ≡ Lacking → ⊥
+reference_there : (t k : ℕ) → is_reference (attribute_of t k) ≡ true → attribute_of t k ≡ None → ⊥
 reference_there t k e z = false≢true (sym (ap is_reference z) ∙ e)
 
 -- no type has two references

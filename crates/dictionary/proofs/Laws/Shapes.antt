@@ -1,6 +1,6 @@
 -- The parts of a shape are those that were packed, and what it says of a target and of a header.
-use Rattle.std.specs.Prelude.{◌≡◌, refl, Bool, true, false, cond, ◌&&◌, ℕ, suc, ◌*◌, ◌/◌, ◌%◌, ◌^◌, ◌≤◌, ◌<◌, eqb, ltb}
-use Rattle.std.proofs.Common.{sym, ap, ◌∙◌, ⊎_elim, arith, pow_mono, lt-ltb, ltb-true}
+use Rattle.std.specs.Prelude.{◌≡◌, refl, Bool, true, false, cond, ◌&&◌, ℕ, suc, ◌*◌, ◌/◌, ◌%◌, ◌^◌, ◌≤◌, ◌<◌, eqb, ltb, min, Some}
+use Rattle.std.proofs.Common.{sym, ap, ◌∙◌, ⊎_elim, arith, pow_mono, le-ltb, lt-ltb, ltb-true, ltb-false}
 use Rattle.std.proofs.lemmas.Bool.{false≢true}
 use Rattle.std.specs.Int.Bits.{bit_and}
 use Rattle.std.proofs.Math.ListN.{length}
@@ -20,6 +20,14 @@ use Rattle.dictionary.proofs.Laws.References.{no_type_reference, no_type_targets
 pub no_type_shape : (t : ℕ) → is_type t ≡ false → shape_of t ≡ packed_of 0 no_reference 0
 unfolding shape_of
 no_type_shape t i = rw (no_type_attributes t i, no_type_reference t i, no_type_targets t i)
+
+-- from the first number that is no type on, numbers are alike
+pub capped_shape : (t : ℕ) → shape_of (min t 14) ≡ shape_of t
+unfolding is_type the_table
+capped_shape t =
+    ⊎_elim (λ i. let e : min t 14 ≡ t = omega (arith, ltb-true t types i) in ap shape_of e)
+    (λ i. no_type_shape (min t 14) (le-ltb (min t 14) types (omega (arith, ltb-false t types i))) ∙ sym (no_type_shape t i))
+    (decided (is_type t))
 
 pub flag_small : (k : ℕ) → flag_of k ≤ 8
 flag_small k = by_cases (ltb k no_reference) refl
@@ -50,7 +58,7 @@ unfolding all_b reference_of mask_below targets_of shape_of subtype the_table
 named_of_type t u i l = of_pair types (λ t u. eqb (shape_of t / 2 ^ suc u % 2) 1) (λ t u. may_name (attribute_of t (reference_of t)) u) refl t u i l
 
 -- the reference may name a type exactly if the shape has its bit
-pub target_of_shape : (t u target : ℕ) → attribute_of t (reference_of t) ≡ Reference target → is_type u ≡ true → eqb (shape_of t / 2 ^ suc u % 2) 1 ≡ subtype u target
+pub target_of_shape : (t u target : ℕ) → attribute_of t (reference_of t) ≡ Some (Reference target) → is_type u ≡ true → eqb (shape_of t / 2 ^ suc u % 2) 1 ≡ subtype u target
 unfolding is_type
 target_of_shape t u target w e = rw w at (named_of_type t u typed (ltb-true u types e))
   where

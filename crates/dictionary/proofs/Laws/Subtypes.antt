@@ -1,12 +1,9 @@
 -- What holds of subtypes: the test decides the relation, and each further law is shown of the relation, from the step to
 -- the parent, and read off the test.
-use Rattle.std.specs.Prelude.{◌≡◌, refl, Bool, true, false, ◌||◌, ◌⊎◌, ℕ, zero, suc, ◌<◌, ◌≤◌, eqb, length}
+use Rattle.std.specs.Prelude.{◌≡◌, refl, Bool, true, false, ◌||◌, ◌⊎◌, ℕ, zero, suc, ◌<◌, ◌≤◌, eqb, length, Option, None, Some}
 use Rattle.std.proofs.Common.{sym, subst, ◌∙◌, inl, inr, ⊎_elim, le_refl, arith, eq-eqb, ne_eqb, eqb-true}
 use Rattle.std.proofs.Math.Bool.{or-true}
 use Rattle.std.proofs.lemmas.Bool.{false≢true}
-use Rattle.dictionary.specs.declared.answers.Parent.{Parent}
-use Rattle.dictionary.specs.declared.answers.Parent.TheVariants.{Root, Is}
-use Rattle.dictionary.specs.declared.answers.Attribute.TheVariants.{Lacking}
 use Rattle.logic.specs.Laws.Bools.{fails}
 use Rattle.dictionary.specs.Dictionary.{is_type, parent_of, schema_of, above, climbing, climb, attributes_of, attribute_of}
 use Rattle.dictionary.specs.Subtype.{same_or, subtype, Subtype, same, by_parent}
@@ -17,10 +14,10 @@ pub subtype_step : (a b : ℕ) → subtype a b ≡ (eqb a b || above false (λ p
 unfolding subtype
 subtype_step a b = climb_step false (same_or b) a
 
-pub subtype_up : (a b p : ℕ) → (a ≡ b → ⊥) → parent_of a ≡ Is p → subtype a b ≡ subtype p b
+pub subtype_up : (a b p : ℕ) → (a ≡ b → ⊥) → parent_of a ≡ Some p → subtype a b ≡ subtype p b
 subtype_up a b p n w = rw (subtype_step a b, ne_eqb a b n, w)
 
-pub subtype_root : (a b : ℕ) → (a ≡ b → ⊥) → parent_of a ≡ Root → subtype a b ≡ false
+pub subtype_root : (a b : ℕ) → (a ≡ b → ⊥) → parent_of a ≡ None → subtype a b ≡ false
 subtype_root a b n w = rw (subtype_step a b, ne_eqb a b n, w)
 
 -- the test holds of related types alone, and of all of them
@@ -29,10 +26,10 @@ either : (x y : Bool) → (x || y) ≡ true → (x ≡ true) ⊎ (y ≡ true)
 either true y e = inl refl
 either false y e = inr e
 
-from_parent : (a b : ℕ) (f : ℕ → Bool) (x : Parent) → parent_of a ≡ x → ((p : ℕ) → f p ≡ true → Subtype p b)
+from_parent : (a b : ℕ) (f : ℕ → Bool) (x : Option ℕ) → parent_of a ≡ x → ((p : ℕ) → f p ≡ true → Subtype p b)
     → above false f x ≡ true → Subtype a b
-from_parent a b f Root w q e = absurd (false≢true e)
-from_parent a b f (Is p) w q e = by_parent w (q p e)
+from_parent a b f None w q e = absurd (false≢true e)
+from_parent a b f (Some p) w q e = by_parent w (q p e)
 
 climbed : (b n a : ℕ) → climbing false (same_or b) n a ≡ true → Subtype a b
 unfolding climbing
@@ -53,7 +50,7 @@ related_subtype (by_parent {a} {p} {b} w s) = rw (subtype_step a b, w, related_s
 pub subtype_same : (a : ℕ) → subtype a a ≡ true
 subtype_same a = related_subtype same
 
-pub subtype_parent : (t p : ℕ) → parent_of t ≡ Is p → subtype t p ≡ true
+pub subtype_parent : (t p : ℕ) → parent_of t ≡ Some p → subtype t p ≡ true
 subtype_parent t p w = related_subtype (by_parent w same)
 
 related_trans : {a b c : ℕ} → Subtype a b → Subtype b c → Subtype a c
@@ -91,7 +88,7 @@ related_attribute (by_parent {a} {p} {b} w s) k h =
     attribute_inherited a p k w (attribute_count p k λ z. attribute_there b k h (sym e ∙ z)) ∙ e
 
 -- a supertype's attributes stand first among a subtype's
-pub subtype_attribute : (a b k : ℕ) → subtype a b ≡ true → (attribute_of b k ≡ Lacking → ⊥)
+pub subtype_attribute : (a b k : ℕ) → subtype a b ≡ true → (attribute_of b k ≡ None → ⊥)
     → attribute_of a k ≡ attribute_of b k
 subtype_attribute a b k e n = related_attribute (subtype_related a b e) k (attribute_count b k n)
 

@@ -1,5 +1,5 @@
 -- What the two words of a tag say of a target and of a header.
-use Rattle.std.specs.Prelude.{◌≡◌, refl, true, false, ℕ, suc, ◌+◌, ◌*◌, ◌/◌, ◌%◌, ◌^◌, ◌≤◌, ◌<◌, eqb, length}
+use Rattle.std.specs.Prelude.{◌≡◌, refl, true, false, ℕ, suc, ◌+◌, ◌*◌, ◌/◌, ◌%◌, ◌^◌, ◌≤◌, ◌<◌, eqb, length, Some}
 use Rattle.std.proofs.Common.{sym, ◌∙◌, ⊎_elim, pow_mono, eq-eqb, eqb-true, ltb-true}
 use Rattle.std.proofs.Math.Path.{ap}
 use Rattle.std.proofs.lemmas.Bool.{false≢true}
@@ -16,9 +16,7 @@ use Rattle.dictionary.specs.Quick.Shapes.{flag_of, shape_of, mark_in}
 use Rattle.dictionary.specs.Quick.Tags.{bars_of, names_of}
 use Rattle.dictionary.specs.Laws.Types.{of_pair}
 use Rattle.dictionary.proofs.Laws.Attributes.{no_type_attribute, attributes_few}
-use Rattle.dictionary.proofs.Laws.Shapes.{no_type_shape, mark_of_shape, shape_even, strays_of_tag}
-
--- numbers that are no type
+use Rattle.dictionary.proofs.Laws.Shapes.{mark_of_shape, no_type_shape, shape_even, strays_of_tag}
 
 pub no_type_bars : (t u : ℕ) → is_type t ≡ false → is_type u ≡ false → bars_of t ≡ bars_of u
 unfolding bars_of
@@ -35,7 +33,7 @@ unfolding all_b reference_of mask_below targets_of shape_of names_of subtype the
 named_of_type t u i l = of_pair types (λ t u. eqb (names_of t / 2 ^ suc u % 2) 1) (λ t u. may_name (attribute_of t (reference_of t)) u) refl t u i l
 
 -- the reference may name a type exactly if there is its bit
-pub target_of_names : (t u target : ℕ) → attribute_of t (reference_of t) ≡ Reference target → is_type u ≡ true → eqb (names_of t / 2 ^ suc u % 2) 1 ≡ subtype u target
+pub target_of_names : (t u target : ℕ) → attribute_of t (reference_of t) ≡ Some (Reference target) → is_type u ≡ true → eqb (names_of t / 2 ^ suc u % 2) 1 ≡ subtype u target
 unfolding is_type
 target_of_names t u target w e = rw w at (named_of_type t u typed (ltb-true u types e))
   where

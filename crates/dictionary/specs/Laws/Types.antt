@@ -1,11 +1,9 @@
 -- What holds of types, their parents and their schemas, and the step from a type to its parent. Each fact about the
 -- whole table is one computed test, which `of_type`, `of_parent` or `of_pair` carries to each type or pair.
-use Rattle.std.specs.Prelude.{◌≡◌, refl, Bool, true, false, cond, not, [], ℕ, zero, suc, ◌<◌, ◌≤◌, ltb, leb, eqb, length}
+use Rattle.std.specs.Prelude.{◌≡◌, refl, Bool, true, false, cond, not, [], ℕ, zero, suc, ◌<◌, ◌≤◌, ltb, leb, eqb, length, Option, None, Some}
 use Rattle.std.proofs.Common.{sym, ◌∙◌, ap, ⊎_elim, le_refl, lt_of_lt_of_le, le_of_suc-le-suc, not-suc-le-zero, arith, ltb-true, ltb-false, leb-true, eqb-true}
 use Rattle.std.proofs.Math.ListN.{get_or-eq_default}
 use Rattle.std.proofs.lemmas.Bool.{not-true}
-use Rattle.dictionary.specs.declared.answers.Parent.{Parent}
-use Rattle.dictionary.specs.declared.answers.Parent.TheVariants.{Root, Is}
 use Rattle.logic.specs.Search.{all_b}
 use Rattle.logic.specs.Laws.Search.{all_at}
 use Rattle.logic.specs.Laws.Bools.{decided}
@@ -17,7 +15,7 @@ no_type_row : (t : ℕ) → is_type t ≡ false → row_of t ≡ blank
 unfolding is_type types row_of
 no_type_row t e = get_or-eq_default dictionary blank (ltb-false t (length dictionary) e)
 
-pub no_type_parent : (t : ℕ) → is_type t ≡ false → parent_of t ≡ Root
+pub no_type_parent : (t : ℕ) → is_type t ≡ false → parent_of t ≡ None
 unfolding parent_of
 no_type_parent t e = ap (λ (r : Row). r.parent) (no_type_row t e)
 
@@ -40,10 +38,10 @@ unfolding is_type
 of_type f e t i = all_at types f e t (ltb-true t types i)
 
 of_parent : (f : ℕ → ℕ → Bool) → all_b types (λ t. above true (f t) (parent_of t)) ≡ true
-    → (t p : ℕ) → parent_of t ≡ Is p → f t p ≡ true
+    → (t p : ℕ) → parent_of t ≡ Some p → f t p ≡ true
 of_parent f e t p w =
     ⊎_elim (λ i. rw w at (of_type (λ t. above true (f t) (parent_of t)) e t i))
-    (λ i. let z : Root ≡ Is p = sym (no_type_parent t i) ∙ w in cc)
+    (λ i. let z : None ≡ Some p = sym (no_type_parent t i) ∙ w in cc)
     (decided (is_type t))
 
 -- a computed test that two tests are alike, carried to each type with each number below a bound
@@ -63,19 +61,19 @@ of_pair n f g e t x i l =
 
 -- a parent's number is lower, and it is a type of the same schema
 
-pub parent_lower : (t p : ℕ) → parent_of t ≡ Is p → p < t
+pub parent_lower : (t p : ℕ) → parent_of t ≡ Some p → p < t
 unfolding all_b the_table
 parent_lower t p w = ltb-true p t (of_parent (λ t p. ltb p t) refl t p w)
 
-pub child_type : (t p : ℕ) → parent_of t ≡ Is p → is_type t ≡ true
+pub child_type : (t p : ℕ) → parent_of t ≡ Some p → is_type t ≡ true
 unfolding all_b the_table
 child_type t p w = of_parent (λ t p. is_type t) refl t p w
 
-pub parent_type : (t p : ℕ) → parent_of t ≡ Is p → is_type p ≡ true
+pub parent_type : (t p : ℕ) → parent_of t ≡ Some p → is_type p ≡ true
 unfolding all_b the_table
 parent_type t p w = of_parent (λ t p. is_type p) refl t p w
 
-pub parent_schema : (t p : ℕ) → parent_of t ≡ Is p → schema_of t ≡ schema_of p
+pub parent_schema : (t p : ℕ) → parent_of t ≡ Some p → schema_of t ≡ schema_of p
 unfolding all_b the_table
 parent_schema t p w =
     eqb-true (schema_of t) (schema_of p) (of_parent (λ t p. eqb (schema_of t) (schema_of p)) refl t p w)
@@ -90,10 +88,10 @@ type_schema t i = (
 
 -- the step from a type to its parent: the bound on the steps is enough
 
-above_same : {A : Type 0} (e : A) (g h : ℕ → A) (x : Parent) → ((p : ℕ) → x ≡ Is p → g p ≡ h p)
+above_same : {A : Type 0} (e : A) (g h : ℕ → A) (x : Option ℕ) → ((p : ℕ) → x ≡ Some p → g p ≡ h p)
     → above e g x ≡ above e h x
-above_same e g h Root q = refl
-above_same e g h (Is p) q = q p refl
+above_same e g h None q = refl
+above_same e g h (Some p) q = q p refl
 
 -- more steps than the type's number change nothing
 enough : {A : Type 0} (e : A) (f : ℕ → A → A) (n m t : ℕ) → t < n → t < m → climbing e f n t ≡ climbing e f m t

@@ -15,8 +15,7 @@ use Rattle.state.specs.declared.state.Log.{Log}
 use Rattle.state.specs.declared.state.Session.{Session}
 use Rattle.state.specs.States.{NONE, RO, RW, ABORTED, is_open, under, closed_state, blank_log, session}
 use Rattle.session.specs.Sound.{sound_slots, sound_log, may_access}
-use Rattle.session.specs.declared.effects.Tables.TheVariants.{Stay, Commit, Drop}
-use Rattle.session.specs.Effects.{working_after, kept_after, if_writing}
+use Rattle.session.specs.Effects.{Stay, Commit, Drop, working_after, kept_after, if_writing}
 use Rattle.session.specs.Step.{log_after}
 use Rattle.promises.specs.Keeps.Facts.{SoundTable, SoundTables}
 use Rattle.promises.specs.Keeps.SessionFacts.{SoundLog, log_test, SoundAccess, SoundTransaction, SoundSession, Sound}

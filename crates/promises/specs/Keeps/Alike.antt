@@ -1,5 +1,5 @@
 -- Tables that agree in the words in use: what a call reads of them is the same, and what it writes leaves them so.
-use Rattle.std.specs.Prelude.{◌≡◌, refl, Bool, true, false, cond, ◌⊎◌, List, get_or, set}
+use Rattle.std.specs.Prelude.{◌≡◌, refl, Bool, true, false, cond, ◌⊎◌, List, get_or, set, Option, None, Some}
 use Rattle.std.proofs.Common.{sym, ◌∙◌, inl, inr, arith, length-set, get_or-set_same, get_or-set_other}
 use Rattle.std.proofs.Math.Path.{ap, fun_ext}
 use Prim.Native.Nat.{ℕ, zero, suc, ◌+◌, ◌-◌, ◌<◌}
@@ -14,7 +14,7 @@ use Rattle.words.specs.Laws.Layout.{cursor_in_use}
 use Rattle.words.specs.Laws.Entries.{entry_in_use}
 use Rattle.words.specs.Laws.Copies.{Agreeing, agree_entries}
 use Rattle.dictionary.specs.declared.answers.Attribute.{Attribute}
-use Rattle.dictionary.specs.declared.answers.Attribute.TheVariants.{Lacking, Whole, Reference}
+use Rattle.dictionary.specs.declared.answers.Attribute.TheVariants.{Whole, Reference}
 use Rattle.tables.specs.View.{set_at, header_at, share_set}
 use Rattle.tables.specs.Deletions.{goes_with, refers, holds_back, held_back, detached, swept, ungrouped, without}
 use Rattle.tables.specs.declared.changes.Change.{Change}
@@ -55,10 +55,10 @@ module _ (t u : List ℕ) (same : (kind : Kind) (i k : ℕ) → word_of t kind i
       ap (λ (goes : ℕ → Bool). any_b (count_of Instance) (holds_back t goes r)) (goes_alike kind n)
       ∙ ap (any_b (count_of Instance)) (fun_ext (holds_alike (goes_with u kind n) r))
 
-  referring_alike : (x : Attribute) (m v : ℕ) → referring x m v t ≡ referring x m v u
-  referring_alike Lacking m v = refl
-  referring_alike Whole m v = refl
-  referring_alike (Reference target) m v = simp (same, share_alike)
+  referring_alike : (x : Option Attribute) (m v : ℕ) → referring x m v t ≡ referring x m v u
+  referring_alike None m v = refl
+  referring_alike (Some Whole) m v = refl
+  referring_alike (Some (Reference target)) m v = simp (same, share_alike)
 
   reader_alike : (o : Reader) (a b : ℕ) (s : State) → reader_row o a b s t ≡ reader_row o a b s u
   reader_alike reader.ReadOnlyAccess a b s = simp same

@@ -1,5 +1,5 @@
 -- Operations that change the working table: the state stays sound.
-use Rattle.std.specs.Prelude.{◌≡◌, refl, Bool, true, false, cond, List, ℕ, ◌≤◌, ◌<◌, ltb}
+use Rattle.std.specs.Prelude.{◌≡◌, refl, Bool, true, false, cond, List, ℕ, ◌≤◌, ◌<◌, ltb, None}
 use Rattle.std.proofs.Common.{arith, ltb-true}
 use Rattle.tables.specs.Laws.Sound.{live_below_lem}
 use Rattle.words.specs.declared.layout.Kind.{Kind}
@@ -12,7 +12,6 @@ use Rattle.words.specs.Laws.Fields.{name_of_label, repository_of_label}
 use Rattle.words.specs.Laws.Layout.{kinds_apart}
 use Rattle.words.specs.Laws.Entries.{word_other, entry_other, made_other}
 use Rattle.words.proofs.Found.{next_is_free}
-use Rattle.dictionary.specs.declared.answers.Attribute.TheVariants.{Lacking}
 use Rattle.dictionary.specs.Dictionary.{is_type, schema_of, attribute_of, lacks}
 use Rattle.dictionary.specs.Laws.Types.{small_type}
 use Rattle.dictionary.proofs.Laws.Attributes.{attributes_few, attribute_count}
@@ -24,9 +23,7 @@ use Rattle.tables.specs.Changes.{apply}
 use Rattle.state.specs.declared.state.Session.{Session}
 use Rattle.state.specs.Refusals.{done}
 use Rattle.state.specs.States.{RW, is_open, under, with_access}
-use Rattle.session.specs.declared.effects.Tables.TheVariants.{Changed}
-use Rattle.session.specs.declared.effects.Effect.{Effect}
-use Rattle.session.specs.Effects.{does, full, created, working_after, kept_after}
+use Rattle.session.specs.Effects.{Changed, Effect, does, full, created, working_after, kept_after}
 use Rattle.logic.specs.Laws.Bools.{clash}
 use Rattle.promises.specs.Keeps.Facts.{SoundTable}
 use Rattle.promises.specs.Keeps.SessionFacts.{Sound}
@@ -45,7 +42,7 @@ After x w k e = Leaves x.log e.state (working_after e.tables w k) (kept_after e.
 
 -- an attribute that a type has is one of four
 pub few_attributes : (t k : ℕ) → lacks (attribute_of t k) ≡ false → k < values
-few_attributes t k e = omega (arith, attributes_few t, attribute_count t k (λ z. clash (lacks Lacking) refl (rw z at e)))
+few_attributes t k e = omega (arith, attributes_few t, attribute_count t k (λ z. clash (lacks None) refl (rw z at e)))
 
 module _ (x : Session) (w k : List ℕ) (h : Sound x w k) (opened : is_open x.state ≡ true) (writes : under x.state RW ≡ true) where
   good : SoundTable w

@@ -1,5 +1,5 @@
 -- What an entry's soundness rests on: its own words, the labels of live models, and which instances live with which types.
-use Rattle.std.specs.Prelude.{◌≡◌, refl, Bool, true, false, ◌&&◌, ◌⊎◌, List, ℕ, ◌+◌, eqb}
+use Rattle.std.specs.Prelude.{◌≡◌, refl, Bool, true, false, ◌&&◌, ◌⊎◌, List, ℕ, ◌+◌, eqb, Option, None, Some}
 use Rattle.std.proofs.Common.{◌∙◌, inl, inr, arith, eqb-true}
 use Rattle.std.proofs.lemmas.Bool.{eqb-false, not-true}
 use Rattle.tables.specs.Laws.Sound.{SoundHeader}
@@ -11,7 +11,7 @@ use Rattle.words.specs.Entries.{word_of, free_at}
 use Rattle.logic.specs.Laws.Bools.{and_left, and_right, and_both}
 use Rattle.words.specs.Laws.Fields.{Alike}
 use Rattle.dictionary.specs.declared.answers.Attribute.{Attribute}
-use Rattle.dictionary.specs.declared.answers.Attribute.TheVariants.{Lacking, Whole, Reference}
+use Rattle.dictionary.specs.declared.answers.Attribute.TheVariants.{Whole, Reference}
 use Rattle.dictionary.specs.Dictionary.{attribute_of}
 use Rattle.dictionary.specs.Subtype.{subtype}
 pub use Rattle.tables.specs.Laws.Sound.{live_below_lem}
@@ -86,15 +86,15 @@ pub record Lasts (t t' : List ℕ) (v : ℕ) : Type 0 where
 pub lasts_same : (t t' : List ℕ) (v : ℕ) → header_at t' v ≡ header_at t v → is_live t Instance v ≡ true → Lasts t t' v
 lasts_same t t' v e h = record { live = rw e h; type = rw e }
 
-pub value_stays : (t t' : List ℕ) (x : Attribute) (set : Bool) (v : ℕ) → (is_live t Instance v ≡ true → Lasts t t' v)
+pub value_stays : (t t' : List ℕ) (x : Option Attribute) (set : Bool) (v : ℕ) → (is_live t Instance v ≡ true → Lasts t t' v)
     → sound_value t x set v ≡ true → sound_value t' x set v ≡ true
-value_stays t t' Lacking set v k h = h
-value_stays t t' Whole set v k h = h
-value_stays t t' (Reference u) true v k h = lasting (k (and_left (is_live t Instance v) _ h)) (and_right (is_live t Instance v) _ h)
+value_stays t t' None set v k h = h
+value_stays t t' (Some Whole) set v k h = h
+value_stays t t' (Some (Reference u)) true v k h = lasting (k (and_left (is_live t Instance v) _ h)) (and_right (is_live t Instance v) _ h)
   where
     lasting : Lasts t t' v → subtype (type_at t v) u ≡ true → (is_live t' Instance v && subtype (type_at t' v) u) ≡ true
     lasting l s = and_both _ _ l.live (rw l.type s)
-value_stays t t' (Reference u) false v k h = h
+value_stays t t' (Some (Reference u)) false v k h = h
 
 module _ (t t' : List ℕ) (i : ℕ) where
   pub instance_stays : ((k : ℕ) → word_of t' Instance i k ≡ word_of t Instance i k)

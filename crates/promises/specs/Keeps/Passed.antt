@@ -1,5 +1,5 @@
 -- What a call knows once its checks are passed: a fact by name for each.
-use Rattle.std.specs.Prelude.{◌≡◌, true, false, ◌||◌, List, ◌++◌, ℕ, ◌<◌, ◌≤◌, leb}
+use Rattle.std.specs.Prelude.{◌≡◌, true, false, ◌||◌, List, ◌++◌, ℕ, ◌<◌, ◌≤◌, leb, Option, None, Some}
 use Rattle.std.proofs.Common.{true≢false, leb-true, leb-false, lt-ltb}
 use Rattle.std.proofs.lemmas.Bool.{not-false}
 use Rattle.logic.specs.Laws.Bools.{and_left, and_right, and_both}
@@ -9,7 +9,7 @@ use Rattle.words.specs.Sets.{has}
 use Rattle.words.specs.Fields.{repositories, repository_in, model_in, type_in, is_free, is_schema}
 use Rattle.words.specs.Entries.{is_taken}
 use Rattle.dictionary.specs.declared.answers.Attribute.{Attribute}
-use Rattle.dictionary.specs.declared.answers.Attribute.TheVariants.{Lacking, Whole, Reference}
+use Rattle.dictionary.specs.declared.answers.Attribute.TheVariants.{Whole, Reference}
 use Rattle.dictionary.specs.Dictionary.{attribute_of, lacks}
 use Rattle.dictionary.specs.Subtype.{subtype}
 use Rattle.tables.specs.View.{is_live, label_at, type_at}
@@ -119,9 +119,9 @@ is_labelled kind taken repository schema name s w p =
     }
 
 -- a value that may be put is sound where it is put
-pub put_sound : (t : List ℕ) (x : Attribute) (m v : ℕ) → lacks x ≡ false → v < 0x1_0000_0000 → Clear (referring x m v t) → sound_value t x true v ≡ true
+pub put_sound : (t : List ℕ) (x : Option Attribute) (m v : ℕ) → lacks x ≡ false → v < 0x1_0000_0000 → Clear (referring x m v t) → sound_value t x true v ≡ true
 unfolding Clear
-put_sound t Lacking m v there small c = absurd (true≢false there)
-put_sound t Whole m v there small c = rw (lt-ltb v 0x1_0000_0000 small)
-put_sound t (Reference u) m v there small c =
+put_sound t None m v there small c = absurd (true≢false there)
+put_sound t (Some Whole) m v there small c = rw (lt-ltb v 0x1_0000_0000 small)
+put_sound t (Some (Reference u)) m v there small c =
     and_both (is_live t Instance v) (subtype (type_at t v) u) (rw c.0) (not-false (subtype (type_at t v) u) c.1.0)

@@ -1,5 +1,5 @@
 -- Instances and models deleted: a table stays sound.
-use Rattle.std.specs.Prelude.{◌≡◌, refl, Bool, true, false, ◌&&◌, ◌⊎◌, List, ℕ, zero, suc, ◌+◌, ◌≤◌, ◌<◌, ltb}
+use Rattle.std.specs.Prelude.{◌≡◌, refl, Bool, true, false, ◌&&◌, ◌⊎◌, List, ℕ, zero, suc, ◌+◌, ◌≤◌, ◌<◌, ltb, Option, None, Some}
 use Rattle.std.proofs.Common.{sym, ◌∙◌, inl, inr, arith, eq-eqb, eqb-true, ltb-true}
 use Rattle.tables.specs.Laws.Sound.{live_below_lem}
 use Rattle.words.specs.declared.layout.Kind.{Kind}
@@ -13,7 +13,7 @@ use Rattle.words.specs.Laws.Fields.{header_is_live}
 use Rattle.words.specs.Laws.Layout.{kinds_apart}
 use Rattle.words.specs.Laws.Entries.{word_same, word_other, entry_other}
 use Rattle.dictionary.specs.declared.answers.Attribute.{Attribute}
-use Rattle.dictionary.specs.declared.answers.Attribute.TheVariants.{Lacking, Whole, Reference}
+use Rattle.dictionary.specs.declared.answers.Attribute.TheVariants.{Whole, Reference}
 use Rattle.dictionary.specs.Dictionary.{is_reference, attribute_of}
 use Rattle.tables.specs.View.{is_live, label_at, set_at, header_at, type_at, model_at, is_set, value_at}
 use Rattle.tables.specs.Sound.{sound_value}
@@ -30,12 +30,12 @@ use Rattle.promises.specs.Keeps.Swept.{Same, Unset, Rid, Sweep, sweeps}
 
 -- ---- a sweep keeps a table sound
 
-value_kept : (t t' : List ℕ) (goes : ℕ → Bool) (x : Attribute) (set : Bool) (v : ℕ) → (is_reference x && set && goes v) ≡ false
+value_kept : (t t' : List ℕ) (goes : ℕ → Bool) (x : Option Attribute) (set : Bool) (v : ℕ) → (is_reference x && set && goes v) ≡ false
     → (goes v ≡ false → is_live t Instance v ≡ true → Lasts t t' v) → sound_value t x set v ≡ true → sound_value t' x set v ≡ true
-value_kept t t' goes Lacking set v n k h = h
-value_kept t t' goes Whole set v n k h = h
-value_kept t t' goes (Reference u) true v n k h = value_stays t t' (Reference u) true v (k n) h
-value_kept t t' goes (Reference u) false v n k h = h
+value_kept t t' goes None set v n k h = h
+value_kept t t' goes (Some Whole) set v n k h = h
+value_kept t t' goes (Some (Reference u)) true v n k h = value_stays t t' (Some (Reference u)) true v (k n) h
+value_kept t t' goes (Some (Reference u)) false v n k h = h
 
 module _ (goes : ℕ → Bool) (t t' : List ℕ) (h : SoundTable t) (w : Sweep goes (count_of Instance) t t') where
   pub swept_model : (m k : ℕ) → word_of t' Model m k ≡ word_of t Model m k

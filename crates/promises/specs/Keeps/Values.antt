@@ -1,5 +1,5 @@
 -- Instances: made, put and unset, a table stays sound.
-use Rattle.std.specs.Prelude.{◌≡◌, refl, Bool, true, false, not, ◌&&◌, ◌||◌, ◌⊎◌, List, ℕ, ◌+◌, ◌<◌}
+use Rattle.std.specs.Prelude.{◌≡◌, refl, Bool, true, false, not, ◌&&◌, ◌||◌, ◌⊎◌, List, ℕ, ◌+◌, ◌<◌, Option, None, Some}
 use Rattle.std.proofs.Common.{ap, ◌∙◌, inl, inr, arith, eq-eqb, ne_eqb}
 use Rattle.tables.specs.Laws.Sound.{SoundHeader, live_below_lem}
 use Rattle.words.specs.declared.layout.Kind.TheVariants.{Model, Instance}
@@ -9,7 +9,7 @@ use Rattle.words.specs.Entries.{one_past, free_at, with_words, with_entry}
 use Rattle.words.specs.Laws.Fields.{Header, header_is_live, type_of_header, model_of_header, no_flag, Alike, alike_with, alike_without, flagged_with, flagged_without}
 use Rattle.words.specs.Laws.Entries.{entry_first, entry_zeros, one_past_below}
 use Rattle.dictionary.specs.declared.answers.Attribute.{Attribute}
-use Rattle.dictionary.specs.declared.answers.Attribute.TheVariants.{Lacking, Whole, Reference}
+use Rattle.dictionary.specs.declared.answers.Attribute.TheVariants.{Whole, Reference}
 use Rattle.dictionary.specs.Dictionary.{is_type, schema_of, attribute_of}
 use Rattle.tables.specs.View.{is_live, label_at, header_at, type_at, model_at, value_at}
 use Rattle.tables.specs.Sound.{sound_value}
@@ -21,10 +21,10 @@ use Rattle.promises.specs.Keeps.Edited.{Rest, entry_rest, cursor_moved, instance
 use Rattle.promises.specs.Keeps.Written.{written, written_header, written_value, written_others, written_rest}
 
 -- an attribute that is not set is sound with a word that is 0
-pub unset_sound : (t : List ℕ) (x : Attribute) → sound_value t x false 0 ≡ true
-unset_sound t Lacking = refl
-unset_sound t Whole = refl
-unset_sound t (Reference u) = refl
+pub unset_sound : (t : List ℕ) (x : Option Attribute) → sound_value t x false 0 ≡ true
+unset_sound t None = refl
+unset_sound t (Some Whole) = refl
+unset_sound t (Some (Reference u)) = refl
 
 -- ---- an instance is made
 

@@ -4,12 +4,11 @@ use Rattle.std.proofs.Math.Path.{refl, ap}
 use Rattle.std.proofs.Math.Bool.{true, false}
 use Rattle.std.proofs.Common.{inl, inr, arith, eq-eqb, ne_eqb}
 use Rattle.state.specs.declared.state.Session.{Session}
-use Rattle.session.specs.declared.effects.Effect.{Effect}
+use Rattle.session.specs.Effects.{Effect, working_after, kept_after}
 use Rattle.state.specs.Refusals.{SY_ERR, done}
 use Rattle.checks.specs.Operations.{operation_of}
 use Rattle.state.specs.States.{session, answer}
 use Rattle.session.specs.Sound.{sound}
-use Rattle.session.specs.Effects.{working_after, kept_after}
 use Rattle.session.specs.Rows.{refusal_of, effect}
 use Rattle.session.specs.Step.{Outcome, outcome, refused_answer, log_after, finished, core, step}
 use Rattle.session.specs.Laws.Range.{Refusing, Refused, row_fair, refusal_range}

@@ -1,13 +1,14 @@
 -- Record after record.
-use Rattle.std.specs.Prelude.{◌≡◌, refl, Bool, true, false, cond, ◌&&◌, List, [], ◌∷◌, ◌++◌, ℕ, zero, suc, ◌+◌, ◌-◌, ◌≤◌, ◌<◌, leb, length, take, drop}
-use Rattle.std.proofs.Common.{sym, ap, ◌∙◌, arith, length-drop, length-take, drop-drop, leb-true}
+use Rattle.std.specs.Prelude.{◌≡◌, Option, None, Some, refl, Bool, true, false, cond, ◌&&◌, List, [], ◌∷◌, ◌++◌, ℕ, zero, suc, ◌+◌, ◌-◌, ◌≤◌, ◌<◌, leb, length, take, drop, min}
+use Rattle.std.proofs.Common.{sym, ap, ◌∙◌, arith, append-nil, drop_at, length-append, length-drop, length-take, drop-drop, leb-true}
 use Rattle.std.proofs.lemmas.Bool.{false≢true}
+use Rattle.std.proofs.lemmas.List.{nil_from_length}
 use Rattle.std.proofs.Math.Nat.{suc-sub-suc, sub-zero, zero-sub, sub-add-eq}
 use Rattle.std.proofs.Math.Seq.{take-nil}
 use Rattle.logic.specs.Laws.Bools.{and_left}
-use Rattle.records.specs.declared.decoding.Found.TheVariants.{Whole, Bad}
 use Rattle.records.specs.Records.{size, marked, fields_of, record_of}
-use Rattle.records.specs.declared.decoding.Record.{Record}
+use Rattle.state.specs.declared.state.Order.{Order}
+use Rattle.records.specs.Laws.Records.{record_alone}
 use Rattle.records.specs.Lines.{written, after, line_text}
 use Rattle.records.specs.Laws.Writing.{text_written, after_fits}
 use Rattle.state.specs.declared.state.Answer.{Answer}
@@ -54,7 +55,7 @@ bytes_more (b ∷ bytes) x h e =
 pub whole_record : (bytes : List ℕ) (x : Here) → (after_found (record_of bytes) x).on ≡ true → size ≤ length bytes
 whole_record bytes x e = tell (leb size (length bytes) && marked bytes) refl e
   where
-    tell : (b : Bool) → (leb size (length bytes) && marked bytes) ≡ b → (after_found (cond b (Whole (fields_of bytes)) Bad) x).on ≡ true → size ≤ length bytes
+    tell : (b : Bool) → (leb size (length bytes) && marked bytes) ≡ b → (after_found (cond b (Some (fields_of bytes)) None) x).on ≡ true → size ≤ length bytes
     tell true h p = leb-true size (length bytes) (and_left (leb size (length bytes)) (marked bytes) h)
     tell false h p = absurd (false≢true p)
 
@@ -93,6 +94,33 @@ module _ (block : List ℕ) (from got : ℕ) (x y : Here) (some : from < got) (l
       ∙ ap (after_bytes (drop size (part_of block from got))) e
       ∙ sym (bytes_more (part_of block from got) x there (rw e at on))
 
+-- ---- the bytes cut into records, the last of which may be shorter
+
+-- the first part leaves the program at y: it stops there, or it goes on behind that record
+module _ (bytes part rest : List ℕ) (x y : Here) (split : bytes ≡ part ++ rest) (cut : length part ≡ min size (length bytes)) (some : 0 < length bytes)
+    (e : y ≡ after_found (record_of part) x) where
+  first : record_of part ≡ record_of bytes
+  first = by_length (length rest) refl
+    where
+      by_length : (n : ℕ) → length rest ≡ n → record_of part ≡ record_of bytes
+      by_length zero l = ap record_of (sym (append-nil part) ∙ ap (λ (t : List ℕ). part ++ t) (sym (nil_from_length rest l)) ∙ sym split)
+      by_length (suc n) l = sym (record_alone part rest (omega (arith, ap length split, length-append part rest))) ∙ ap record_of (sym split)
+
+  found : y ≡ after_found (record_of bytes) x
+  found = e ∙ ap (λ (r : Option Order). after_found r x) first
+
+  pub chunk_last : y.on ≡ false → y ≡ after_bytes bytes x
+  chunk_last off = found ∙ sym (bytes_last bytes x some (rw found at off))
+
+  pub chunk_whole : y.on ≡ true → length bytes ≡ size + length rest
+  chunk_whole on = omega (arith, whole_record bytes x (rw found at on), ap length split, length-append part rest)
+
+  pub chunk_more : y.on ≡ true → after_bytes rest y ≡ after_bytes bytes x
+  chunk_more on =
+      ap (λ (l : List ℕ). after_bytes l y) (sym (drop_at part rest size (omega (arith, chunk_whole on, ap length split, length-append part rest))) ∙ ap (drop size) (sym split))
+      ∙ ap (after_bytes (drop size bytes)) found
+      ∙ sym (bytes_more bytes x some (rw found at on))
+
 -- ---- one line more
 
 module _ (start : Run) (out after_out : List ℕ) (next : ℕ) (text : List ℕ) (room : start.at + 64 ≤ length out) (short : length text ≤ 64)
@@ -106,6 +134,12 @@ module _ (start : Run) (out after_out : List ℕ) (next : ℕ) (text : List ℕ)
   pub at_most : next ≤ start.at + 64
   at_most = rw p (omega (arith, after_fits out start.at text fits))
 
+-- both at once, as the contract of a line has it
+pub text_stands : (start : Run) (out after_out : List ℕ) (next : ℕ) (text : List ℕ) → start.at + 64 ≤ length out → length text ≤ 64
+    → (after_out ≡ written out start.at text) × (next ≡ after out start.at text) → (take next after_out ≡ take start.at out ++ text) × (next ≤ start.at + 64)
+text_stands start out after_out next text room short w =
+    (text_more start out after_out next text room short w.0 w.1, at_most start out after_out next text room short w.0 w.1)
+
 -- the run behind a call
 abbrev pub called : Run → Answer → ℕ → Run
 called start answer next = record { session = answer.session; done = start.done + 1; at = next; on = true }
@@ -114,7 +148,7 @@ called start answer next = record { session = answer.session; done = start.done 
 abbrev pub halted : Run → ℕ → Run
 halted start next = record { session = start.session; done = start.done; at = next; on = false }
 
-pub call_stands : (start : Run) (rec : Record) (out w k after_out w' k' : List ℕ) (answer : Answer) (next : ℕ)
+pub call_stands : (start : Run) (rec : Order) (out w k after_out w' k' : List ℕ) (answer : Answer) (next : ℕ)
     → outcome answer w' k' ≡ core rec.op rec.a rec.b rec.c start.session w k
     → take next after_out ≡ take start.at out ++ line_text (start.done + 1) rec.op answer.refusal answer.value answer.place
     → here (called start answer next) after_out w' k' ≡ after_record rec (here start out w k)

@@ -1,12 +1,10 @@
 -- Record after record by `core`, as the code goes, is the run of the input's calls, and the text is its lines.
-use Rattle.std.specs.Prelude.{◌≡◌, Bool, cond, ◌&&◌, List, [], ◌∷◌, ◌++◌, ℕ, zero, suc, ◌+◌, ◌<◌, leb, ltb, length, get_or, take, drop}
+use Rattle.std.specs.Prelude.{◌≡◌, Option, None, Some, Bool, cond, ◌&&◌, List, [], ◌∷◌, ◌++◌, ℕ, zero, suc, ◌+◌, ◌<◌, leb, ltb, length, get_or, take, drop}
 use Rattle.std.proofs.Math.Path.{refl, ap}
 use Rattle.std.proofs.Common.{sym, ◌∙◌, append-nil, mod-eq_of_lt, add-one, arith, length-take, get_or-take, get_or-drop, ltb-true, ltb-false}
 use Rattle.std.proofs.Math.Bool.{true, false}
 use Rattle.std.proofs.Math.ListN.{get_or-eq_default}
-use Rattle.records.specs.declared.decoding.Record.{Record}
-use Rattle.records.specs.declared.decoding.Found.{Found}
-use Rattle.records.specs.declared.decoding.Found.TheVariants.{Whole, Bad}
+use Rattle.state.specs.declared.state.Order.{Order}
 use Rattle.records.specs.Records.{size, marked, long_at, fields_of}
 use Rattle.session.specs.Step.{core}
 use Rattle.session.specs.Runs.{Call, Answered, Machine, Chip, fresh_chip, outcome_by, after_by, history_by, history}
@@ -53,7 +51,7 @@ one_call : (q : Call) (calls : List Call) → after_call q.op (outcome_by core (
 unfolding standing after_by history_by lines_of
 one_call q calls = rw (history_length core fresh_chip calls, add-one (length calls))
 
-one_more : (r : Record) (calls : List Call) → r.c < 0x1_0000_0000 → after_record r (standing calls) ≡ standing (call_of r ∷ calls)
+one_more : (r : Order) (calls : List Call) → r.c < 0x1_0000_0000 → after_record r (standing calls) ≡ standing (call_of r ∷ calls)
 unfolding standing
 one_more r calls h =
     let chip = after_by core fresh_chip calls in
@@ -68,7 +66,7 @@ came input = cond input.proper (standing input.calls) (after_bad (standing input
 
 module _ (k : ℕ) (s : List ℕ) (calls : List Call) (h : Bytes s)
     (later : (earlier : List Call) → after_records k (drop size s) (standing earlier) ≡ came (input_in k (drop size s) earlier)) where
-  record_run : (b : Bool) → (let f : Found = cond b (Whole (fields_of s)) Bad in
+  record_run : (b : Bool) → (let f : Option Order = cond b (Some (fields_of s)) None in
       cond (after_found f (standing calls)).on (after_records k (drop size s) (after_found f (standing calls))) (after_found f (standing calls))
       ≡ came (with_record f calls (input_in k (drop size s))))
   unfolding came

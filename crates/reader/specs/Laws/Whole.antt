@@ -1,5 +1,5 @@
 -- Part by part is the same as the whole input at once.
-use Rattle.std.specs.Prelude.{◌≡◌, Bool, true, false, length}
+use Rattle.std.specs.Prelude.{◌≡◌, Bool, true, false, Option, None, Some, length}
 use Rattle.std.proofs.Math.Path.{refl, ap}
 use Rattle.std.proofs.Common.{sym, ◌∙◌, arith, length-append, length-drop}
 use Rattle.std.proofs.Math.Bool.{cond}
@@ -7,8 +7,7 @@ use mathlib.Core.List.{List, [], ◌∷◌, ◌++◌, append_assoc, append-nil}
 use Prim.Native.Nat.{ℕ, zero, suc, ◌*◌, ◌≤◌, ◌<◌}
 use Rattle.std.proofs.Math.ListN.{drop}
 use Rattle.std.proofs.lemmas.List.{drop-append-le}
-use Rattle.records.specs.declared.decoding.Found.{Found}
-use Rattle.records.specs.declared.decoding.Found.TheVariants.{Whole, Bad}
+use Rattle.state.specs.declared.state.Order.{Order}
 use Rattle.records.specs.Records.{size, record_of}
 use Rattle.records.specs.Laws.Records.{record_alone}
 use Rattle.reader.specs.Blocks.{Here, after_found, after_records, after_bytes}
@@ -23,7 +22,7 @@ after_more bytes x = cond x.on (after_bytes bytes x) x
 
 module _ (s t : List ℕ) (x : Here) (h : size ≤ length s) where
   same : after_found (record_of (s ++ t)) x ≡ after_found (record_of s) x
-  same = ap (λ (f : Found). after_found f x) (record_alone s t h)
+  same = ap (λ (f : Option Order). after_found f x) (record_alone s t h)
 
   one_more : (b : Bool) → (after_found (record_of s) x).on ≡ b
       → ((y : Here) → y.on ≡ true → after_bytes (drop size s ++ t) y ≡ after_more t (after_bytes (drop size s) y))
@@ -52,9 +51,9 @@ abbrev pub said : List ℕ → Here → Here
 said p x = record { session = x.session; working = x.working; kept = x.kept; done = x.done; on = x.on; text = p ++ x.text }
 
 module _ (p : List ℕ) where
-  found_said : (f : Found) (x : Here) → after_found f (said p x) ≡ said p (after_found f x)
-  found_said (Whole r) x = rw append_assoc
-  found_said Bad x = rw append_assoc
+  found_said : (f : Option Order) (x : Here) → after_found f (said p x) ≡ said p (after_found f x)
+  found_said (Some r) x = rw append_assoc
+  found_said None x = rw append_assoc
 
   either_said : (b : Bool) (y z : Here) → cond b (said p y) (said p z) ≡ said p (cond b y z)
   either_said true y z = refl

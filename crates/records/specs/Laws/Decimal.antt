@@ -67,6 +67,26 @@ module _ (before rest : ℕ) (h : before < 20) where
   unfolding width_in
   width_last b = rw (one_less 20 before h, lt-ltb rest 10 b)
 
+-- ---- the width by the power of ten below
+
+some_power : (k : ℕ) → 0 < 10 ^ k
+some_power zero = omega arith
+some_power (suc k) = omega (arith, pow-suc 10 k, some_power k)
+
+ten_or_more : (k n : ℕ) → 10 ^ suc k ≤ n → (10 ≤ n) × (10 ^ k ≤ n / 10)
+ten_or_more k n h =
+    let e = pow-suc 10 k in
+    let p = some_power k in
+    (omega arith, omega arith)
+
+pub width_by_power : (j k n : ℕ) → k < j → 10 ^ k ≤ n → n < 10 ^ suc k → width_in j n ≡ suc k
+unfolding width_in
+width_by_power zero k n h l u = absurd (omega arith)
+width_by_power (suc j) zero n h l u = rw (lt-ltb n 10 (omega arith)) refl
+width_by_power (suc j) (suc k) n h l u =
+    let (more, low) = ten_or_more k n l in
+    rw (le-ltb n 10 more, width_by_power j k (n / 10) (omega arith) low (tens (suc k) n u)) (add-one (suc k))
+
 -- ---- what a reader of the text can count on
 
 pub width_at_most : (k n : ℕ) → width_in k n ≤ k

@@ -1,8 +1,8 @@
 -- A record is what its own bytes say.
-use Rattle.std.specs.Prelude.{◌≡◌, List, ◌++◌, ℕ, ◌≤◌, ◌<◌, length, get_or}
-use Rattle.std.proofs.Common.{arith, le-leb, length-append}
+use Rattle.std.specs.Prelude.{◌≡◌, refl, List, ◌++◌, ℕ, ◌≤◌, ◌<◌, Some, length, get_or, take, drop}
+use Rattle.std.proofs.Common.{arith, ap, sym, ◌∙◌, le-leb, length-append, length-take, take-append-drop}
 use Rattle.std.proofs.Math.ListN.{get_or-append}
-use Rattle.records.specs.Records.{size, record_of}
+use Rattle.records.specs.Records.{size, record_of, fields_of}
 
 -- the bytes behind it play no part
 pub record_alone : (s t : List ℕ) → size ≤ length s → record_of (s ++ t) ≡ record_of s
@@ -29,3 +29,13 @@ record_alone s t h =
       g 14 (omega arith),
       g 15 (omega arith),
     )
+
+-- its bytes cut out, and the fields that they say
+pub record_front : (s r : List ℕ) → size ≤ length s → r ≡ take size s → record_of r ≡ record_of s
+record_front s r h e =
+    ap record_of e
+    ∙ sym (record_alone (take size s) (drop size s) (omega (arith, length-take size s)))
+    ∙ ap record_of (take-append-drop size s)
+
+pub record_whole : (r : List ℕ) → length r ≡ size → get_or r 0 0 ≡ 0x53 → get_or r 1 0 ≡ 0x44 → record_of r ≡ Some (fields_of r)
+record_whole r l first second = rw (l, first, second) refl

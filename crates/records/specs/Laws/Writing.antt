@@ -6,8 +6,9 @@ use mathlib.Core.List.{List, [], ◌∷◌, ◌++◌, append_assoc, append-nil}
 use Rattle.std.proofs.lemmas.Bool.{lt-leb}
 use Rattle.std.proofs.Math.ListN.{get_or}
 use Rattle.std.proofs.Math.Seq.{append_snoc, take_at, get_or_at}
-use Rattle.std.proofs.lemmas.List.{set_at}
+use Rattle.std.proofs.lemmas.List.{set_at, drop-set}
 use Rattle.std.proofs.lemmas.List.Edits.{sets-eq}
+use borrow.Rule.Slice.PartMut.{put_mid}
 use Rattle.records.specs.Lines.{digit, decimal, ended, blank, line_feed, over, written, after, line_text, last_text}
 use Rattle.records.specs.Laws.Decimal.{digits, length_digits, width_of, decimal_digits, length_decimal, width_at_most, width_short, width_shorter}
 
@@ -127,17 +128,37 @@ module _ (k n i j rest : ℕ) (s : i ≡ suc j) (h : j < k) (e : take i (digits 
       rw (drop-cons (digits k n) j 0 within, digit_at, s, add-suc at j)
       (over_before out (at + j) (digit (rest % 10)) (drop (suc j) (digits k n)) (omega arith))
 
+  -- the same where the number is all that there is
+  pub digit_back : (out : List ℕ) → length out ≡ k → drop i out ≡ drop i (digits k n) → drop j (set out j (digit (rest % 10))) ≡ drop j (digits k n)
+  digit_back out l same =
+      rw (drop-set out j (digit (rest % 10)) (omega arith), drop-cons (digits k n) j 0 within, digit_at, add-one j, sym s)
+      (ap (λ (t : List ℕ). digit (rest % 10) ∷ t) same)
+
 -- ---- fields and lines
+
+-- a part of a buffer that a text was put into, from one position to another
+pub put_over : (out : List ℕ) (at end : ℕ) (text : List ℕ) → end ≡ at + length text → put_mid at (end - at) out text ≡ over out at text
+put_over out at end text h =
+    let n : end - at ≡ length text = omega arith in
+    rw (n, drop-drop (length text) at out) (sym (append_assoc (take at out) text (drop (at + length text) out)))
+
+pub length_part : (out : List ℕ) (at k : ℕ) → at + k ≤ length out → length (take (at + k - at) (drop at out)) ≡ k
+length_part out at k h = simp (length-take, length-drop) (omega arith)
+
+-- a text, and a byte behind it
+pub byte_behind : (out : List ℕ) (at : ℕ) (text : List ℕ) (stop : ℕ) {mid : List ℕ} → at + length text < length out → mid ≡ over out at text
+    → Wrote out at (text ++ (stop ∷ [])) (set mid (at + length text) stop) (at + length text + 1)
+byte_behind out at text stop {mid} h m =
+    let same : length mid ≡ length out = ap length m ∙ length_over out at text (omega arith) in
+    and_then out at text (stop ∷ []) (omega arith) (record { stands = m; past = refl }) (one_byte mid (at + length text) stop (omega arith))
 
 -- the digits, and a byte behind them
 pub number_ended : (out : List ℕ) (at k n stop : ℕ) {mid : List ℕ} → k ≡ width_of n → at + k < length out → mid ≡ over out at (digits k n)
     → Wrote out at (ended n stop) (set mid (at + k) stop) (at + k + 1)
 number_ended out at k n stop {mid} e h m =
-    let l = length_decimal n in
     let text : digits k n ≡ decimal n = ap (λ (j : ℕ). digits j n) e ∙ sym (decimal_digits n) in
-    let first : Wrote out at (decimal n) mid (at + k) = record { stands = m ∙ ap (over out at) text; past = omega arith } in
-    let same : length mid ≡ length out = ap length m ∙ length_over out at (digits k n) (omega (arith, length_digits k n)) in
-    and_then out at (decimal n) (stop ∷ []) (omega arith) first (one_byte mid (at + k) stop (omega arith))
+    let l : length (decimal n) ≡ k = length_decimal n ∙ sym e in
+    rw l at (byte_behind out at (decimal n) stop (omega arith) (m ∙ ap (over out at) text))
 
 length_ended : (n stop : ℕ) → length (ended n stop) ≡ width_of n + 1
 length_ended n stop = length-append (decimal n) (stop ∷ []) ∙ omega (arith, length_decimal n)
@@ -147,8 +168,8 @@ pub length_line : (n op refusal value place : ℕ)
 length_line n op refusal value place =
     simp length-append (omega (arith, length_decimal n, length_decimal op, length_decimal refusal, length_decimal value, length_decimal place))
 
-pub length_last : (x y z n : ℕ) → length (last_text x y z n) ≡ width_of n + 5
-length_last x y z n = omega (arith, length_ended n line_feed)
+pub length_last : (word : List ℕ) (n : ℕ) → length word ≡ 3 → length (last_text word n) ≡ width_of n + 5
+length_last word n h = simp length-append (omega (arith, length_decimal n))
 
 -- the five fields of a line
 module _ (out : List ℕ) (at n op refusal value place : ℕ)
@@ -171,11 +192,12 @@ module _ (out : List ℕ) (at n op refusal value place : ℕ)
       (and_then out at (ended n blank) (ended op blank) (omega arith) f g) i) j) k)
 
 -- the word and the number of a last line
-pub last_written : (out : List ℕ) (at x y z n : ℕ) {a b : List ℕ} {p q : ℕ} → at + (width_of n + 5) ≤ length out
-    → Wrote out at (x ∷ y ∷ z ∷ blank ∷ []) a p → Wrote a p (ended n line_feed) b q
-    → (b ≡ written out at (last_text x y z n)) × (q ≡ after out at (last_text x y z n))
-last_written out at x y z n h f g =
-    whole out at (last_text x y z n) (omega (arith, length_last x y z n)) (and_then out at (x ∷ y ∷ z ∷ blank ∷ []) (ended n line_feed) (omega arith) f g)
+pub last_written : (out : List ℕ) (at : ℕ) (word : List ℕ) (n : ℕ) {a b : List ℕ} {p q : ℕ} → length word ≡ 3 → at + (width_of n + 5) ≤ length out
+    → Wrote out at (word ++ (blank ∷ [])) a p → Wrote a p (ended n line_feed) b q
+    → (b ≡ written out at (last_text word n)) × (q ≡ after out at (last_text word n))
+last_written out at word n l h f g =
+    whole out at (last_text word n) (omega (arith, length_last word n l))
+    (and_then out at (word ++ (blank ∷ [])) (ended n line_feed) (omega (arith, length-append word (blank ∷ []))) f g)
 
 -- ---- how long the lines are
 
@@ -186,5 +208,5 @@ short_line n op refusal value place f g h i =
     omega
     (arith, length_line n op refusal value place, width_at_most 20 n, width_short op f, width_shorter refusal g, width_short value h, width_shorter place i)
 
-pub short_last : (x y z n : ℕ) → length (last_text x y z n) ≤ 64
-short_last x y z n = omega (arith, length_last x y z n, width_at_most 20 n)
+pub short_last : (word : List ℕ) (n : ℕ) → length word ≡ 3 → length (last_text word n) ≤ 64
+short_last word n l = omega (arith, length_last word n l, width_at_most 20 n)

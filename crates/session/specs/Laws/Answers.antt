@@ -33,3 +33,6 @@ pub answer_carried : (op refusal value : ℕ) (x : Session) (s : State) → log_
     → answer done value (session s x.log) ≡ finished_answer op x refusal value s
 answer_carried op refusal value x s h =
     rw (and_left (eqb refusal done) (is_open s) h, and_right (eqb refusal done) (is_open s) h)
+
+pub stays_done : (refusal : ℕ) (s : State) → log_stays refusal s ≡ true → refusal ≡ done
+stays_done refusal s h = eqb-true refusal done (and_left (eqb refusal done) (is_open s) h)

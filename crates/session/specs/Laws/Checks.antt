@@ -7,8 +7,7 @@ use Rattle.checks.specs.declared.operations.Operation.{Operation}
 use Rattle.state.specs.declared.state.State.{State}
 use Rattle.checks.specs.Checks.{Check, first_of, gate}
 use Rattle.checks.specs.Laws.Checks.{refusing, first_stops, first_goes_on, gate_refuses}
-use Rattle.session.specs.declared.effects.Effect.{Effect}
-use Rattle.session.specs.Effects.{refuses}
+use Rattle.session.specs.Effects.{Effect, refuses}
 use Rattle.session.specs.Rows.{◌then◌, row_of, checks, effect, refusal_of, performed}
 use Rattle.session.specs.Quick.Rows.{row_done}
 

@@ -1,5 +1,5 @@
 -- Which refusals there are: a call on a sound state is refused with a number from 2 to 32 on a place from 0 to 7, or not at all.
-use Rattle.std.specs.Prelude.{◌≡◌, refl, Bool, true, false, cond, ◌&&◌, ◌⊎◌, List, [], ◌∷◌, ◌++◌, ℕ, ◌≤◌, leb, ltb}
+use Rattle.std.specs.Prelude.{◌≡◌, refl, Option, Some, None, Bool, true, false, cond, ◌&&◌, ◌⊎◌, List, [], ◌∷◌, ◌++◌, ℕ, ◌≤◌, leb, ltb}
 use Rattle.std.proofs.Common.{inl, inr, arith, ne_eqb}
 use Rattle.logic.specs.Search.{all_in}
 use Rattle.logic.specs.Laws.Decides.{Decides, both, at_most, restated}
@@ -10,7 +10,7 @@ use Rattle.words.specs.Layout.{count_of}
 use Rattle.words.specs.Fields.{label_of, header_of}
 use Rattle.words.specs.Entries.{next_free}
 use Rattle.dictionary.specs.declared.answers.Attribute.{Attribute}
-use Rattle.dictionary.specs.declared.answers.Attribute.TheVariants.{Lacking, Whole, Reference}
+use Rattle.dictionary.specs.declared.answers.Attribute.TheVariants.{Whole, Reference}
 use Rattle.dictionary.specs.Dictionary.{attribute_of}
 use Rattle.tables.specs.View.{header_at, type_at, model_at}
 use Rattle.tables.specs.declared.changes.Change.TheVariants.{Made}
@@ -23,11 +23,9 @@ use Rattle.checks.specs.declared.operations.Reader.TheVariants as reader
 use Rattle.checks.specs.declared.operations.Writer.{Writer}
 use Rattle.checks.specs.declared.operations.Writer.TheVariants as writer
 use Rattle.state.specs.declared.state.State.{State}
-use Rattle.session.specs.declared.effects.Tables.TheVariants.{Changed}
-use Rattle.session.specs.declared.effects.Effect.{Effect}
+use Rattle.session.specs.Effects.{Changed, Effect, does, refuses, full, unless_refused, created}
 use Rattle.state.specs.Refusals.{FN_NAVL, NO_ROOM, REMAINING, done, ◌on◌, number_in, place_in, room_of}
 use Rattle.checks.specs.Checks.{Check, first_of, gate}
-use Rattle.session.specs.Effects.{does, refuses, full, unless_refused, created}
 use Rattle.session.specs.Rows.{Row, ◌then◌, writing, referring, session_row, reader_row, writer_row, row_of, checks, effect, refusal_of, performed}
 
 -- a refusal that an event can hold: SY_ERR is none
@@ -119,11 +117,11 @@ created_effect kind first s w = by_room (ltb (next_free w kind) (count_of kind))
 creation_fair : (l : List Check) (kind : Kind) (first : ℕ) (s : State) (w : List ℕ) → all_in given l ≡ true → Fair s (l then created kind first s w)
 creation_fair l kind first s w c = record { checks = c; effect = created_effect kind first s w }
 
-put_checks : (x : Attribute) (header k m v : ℕ) (s : State) (w : List ℕ) → all_in given (writing header k s (referring x m v w)) ≡ true
+put_checks : (x : Option Attribute) (header k m v : ℕ) (s : State) (w : List ℕ) → all_in given (writing header k s (referring x m v w)) ≡ true
 unfolding all_in
-put_checks Lacking header k m v s w = refl
-put_checks Whole header k m v s w = refl
-put_checks (Reference u) header k m v s w = refl
+put_checks None header k m v s w = refl
+put_checks (Some Whole) header k m v s w = refl
+put_checks (Some (Reference u)) header k m v s w = refl
 
 session_fair : (o : InSession) (a b : ℕ) (s : State) → Fair s (session_row o a b s)
 unfolding all_in

@@ -1,5 +1,5 @@
 -- Deletions: what does not hold one back, and which references become unset.
-use Rattle.std.specs.Prelude.{◌≡◌, ◌⊎◌, Bool, true, not, ◌&&◌}
+use Rattle.std.specs.Prelude.{◌≡◌, ◌⊎◌, Bool, true, Some, None, not, ◌&&◌}
 use Rattle.std.proofs.Math.Path.{refl, sym, ap}
 use Rattle.std.proofs.Common.{◌∙◌, ⊎_elim, inl, inr, eq-or-lt_of_le, le_of_suc-le-suc, arith}
 use Rattle.std.proofs.Math.Bool.{false, cond, and-false}
@@ -24,7 +24,7 @@ use Rattle.tables.specs.Laws.Pointers.{Pointer, pointing_live, refers_other, the
 -- ---- what does not hold one back, and what is left to ask of what may
 
 module _ (t : List ℕ) (gone : ℕ → Bool) (access i : ℕ) where
-  pub bare_holds : pointer_in (header_at t i) ≡ values → holds_back t gone access i ≡ false
+  pub bare_holds : pointer_in (header_at t i) ≡ None → holds_back t gone access i ≡ false
   bare_holds e = rw (none_from values (refers t gone i) (λ k l. no_pointer t gone i e k), and-false)
 
   pub free_holds : header_at t i ≡ 0 → holds_back t gone access i ≡ false
@@ -36,11 +36,11 @@ module _ (t : List ℕ) (gone : ℕ → Bool) (access i : ℕ) where
   pub open_holds : has access (model_at t i) ≡ true → holds_back t gone access i ≡ false
   open_holds e = rw (e, and_ended (is_live t Instance i && not (gone i)) false refl)
 
-  pub holds_told : (pointer_in (header_at t i) ≡ values → ⊥) → gone i ≡ false → has access (model_at t i) ≡ false → holds_back t gone access i ≡ gone (value_at t i (pointer_in (header_at t i)))
-  holds_told n e q =
-      let w : Pointer t gone i (pointer_in (header_at t i)) = the_pointer t gone i n in
-      rw (pointing_live (header_at t i) n, e, q)
-      (any_only values (refers t gone i) (pointer_in (header_at t i)) w.below (λ k d. refers_other t gone i k (λ r. d (r ∙ sym w.reference))) ∙ w.asks)
+  pub holds_told : (p : ℕ) → pointer_in (header_at t i) ≡ Some p → gone i ≡ false → has access (model_at t i) ≡ false → holds_back t gone access i ≡ gone (value_at t i p)
+  holds_told p n e q =
+      let w : Pointer t gone i p = the_pointer t gone i p n in
+      rw (pointing_live (header_at t i) p n, e, q)
+      (any_only values (refers t gone i) p w.below (λ k d. refers_other t gone i k (λ r. d (r ∙ sym w.reference))) ∙ w.asks)
 
 -- ---- what becomes unset
 
@@ -62,7 +62,7 @@ module _ (t : List ℕ) (gone : ℕ → Bool) (i : ℕ) where
       ∙ ap (λ (b : Bool). cond b (without_value t i n) t) (h n (omega arith))
 
   -- of an instance with no set reference nothing becomes unset
-  pub bare_stays : pointer_in (header_at t i) ≡ values → detached t gone i values ≡ t
+  pub bare_stays : pointer_in (header_at t i) ≡ None → detached t gone i values ≡ t
   bare_stays e = unchanged values (λ k l. no_pointer t gone i e k)
 
   module _ (k : ℕ) (w : Pointer t gone i k) where

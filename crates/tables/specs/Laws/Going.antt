@@ -1,10 +1,10 @@
 -- The set of those that go: what is in it after a number is added, and that it is the one that the definitions name.
-use Rattle.std.specs.Prelude.{◌≡◌, refl, Bool, true, false, not, ◌&&◌, ◌||◌, ◌⊎◌, List, ℕ, ◌+◌, ◌-◌, ◌%◌, ◌≤◌, ◌<◌, eqb}
+use Rattle.std.specs.Prelude.{◌≡◌, refl, Bool, true, false, Option, Some, None, is_none, not, ◌&&◌, ◌||◌, ◌⊎◌, List, ℕ, ◌+◌, ◌-◌, ◌%◌, ◌≤◌, ◌<◌, eqb}
 use Rattle.std.proofs.Common.{sym, ap, ◌∙◌, inl, inr, arith, lt-ltb, le-ltb, eq-eqb, ne_eqb, eqb-true}
 use Rattle.std.proofs.Math.Path.{fun_ext}
 use Rattle.std.proofs.Math.Bool.{or-false}
 use Rattle.std.proofs.Math.Decide.{dec_lt, ℕ_discrete}
-use Rattle.std.proofs.lemmas.Bool.{eqb-false, not-true}
+use Rattle.std.proofs.lemmas.Bool.{false≢true, eqb-false, not-true}
 use Rattle.words.specs.declared.layout.Kind.TheVariants.{Model, Instance}
 use Rattle.words.specs.Layout.{count_of}
 use Rattle.words.specs.Copies.{is_long}
@@ -18,7 +18,7 @@ use Rattle.dictionary.proofs.Laws.References.{reference_among}
 use Rattle.tables.specs.View.{type_at, is_set, value_at}
 use Rattle.tables.specs.declared.going.Going.{Going}
 use Rattle.tables.specs.Deletions.{goes_with, refers, swept_at, swept}
-use Rattle.tables.specs.Quick.Going.{goes, may_go, may_refer, may_change, is_passed, nothing, with_number, one_going, half_of, gathered}
+use Rattle.tables.specs.Quick.Going.{is_the, is_near, goes, may_go, may_refer, may_change, is_passed, nothing, with_number, one_going, half_of, gathered}
 use Rattle.tables.specs.Laws.Pointers.{refers_other, unset_refers}
 use Rattle.tables.specs.Laws.Deletions.{unchanged}
 
@@ -43,7 +43,7 @@ module _ (g : Going) (j : ℕ) where
   goes_high : bits ≤ j → j < count_of Instance → goes g j ≡ has g.high (j - bits)
   goes_high h l = rw (le-ltb j bits h, lt-ltb j (count_of Instance) l)
 
-  goes_past : count_of Instance ≤ j → goes g j ≡ eqb j g.beyond
+  goes_past : count_of Instance ≤ j → goes g j ≡ is_the g.beyond j
   goes_past h =
       let above : bits ≤ j = omega arith in
       rw (le-ltb j bits above, le-ltb j (count_of Instance) h)
@@ -54,7 +54,7 @@ goes_nothing n = at (zone n)
     at : Zone n → goes nothing n ≡ false
     at (in_low h) = goes_low nothing n h ∙ has_none n
     at (in_high h l) = goes_high nothing n h l ∙ has_none (n - bits)
-    at (past h) = goes_past nothing n h ∙ ne_eqb n 0 (λ e. omega arith)
+    at (past h) = goes_past nothing n h
 
 apart : (n j : ℕ) (b c : Bool) → (n ≡ j → ⊥) → b ≡ c → b ≡ (eqb n j || c)
 apart n j b c h e = rw (ne_eqb n j h) e
@@ -102,7 +102,10 @@ goes_one t i = fun_ext (λ n. at n (zone i) (zone n))
     alone : (b : Bool) (n : ℕ) → b ≡ false → (eqb n i || b) ≡ goes_with t Instance i n
     alone b n e = rw e (or-false (eqb n i))
 
-    beyond_it : (n : ℕ) → count_of Instance ≤ i → goes (one_going i) n ≡ goes (record { low = none; high = none; beyond = i }) n
+    alone_past : Going
+    alone_past = record { low = none; high = none; beyond = Some i }
+
+    beyond_it : (n : ℕ) → count_of Instance ≤ i → goes (one_going i) n ≡ goes alone_past n
     beyond_it n h =
         let above : bits ≤ i = omega arith in
         rw (le-ltb i bits above, le-ltb i (count_of Instance) h)
@@ -110,9 +113,9 @@ goes_one t i = fun_ext (λ n. at n (zone i) (zone n))
     at : (n : ℕ) → Zone i → Zone n → goes (one_going i) n ≡ goes_with t Instance i n
     at n (in_low h) w = goes_with_lem nothing i n (omega arith) ∙ alone (goes nothing n) n (goes_nothing n)
     at n (in_high h l) w = goes_with_lem nothing i n l ∙ alone (goes nothing n) n (goes_nothing n)
-    at n (past h) (in_low l) = beyond_it n h ∙ goes_low _ n l ∙ has_none n ∙ sym (ne_eqb n i (λ e. omega arith))
-    at n (past h) (in_high l m) = beyond_it n h ∙ goes_high _ n l m ∙ has_none (n - bits) ∙ sym (ne_eqb n i (λ e. omega arith))
-    at n (past h) (past l) = beyond_it n h ∙ goes_past _ n l
+    at n (past h) (in_low l) = beyond_it n h ∙ goes_low alone_past n l ∙ has_none n ∙ sym (ne_eqb n i (λ e. omega arith))
+    at n (past h) (in_high l m) = beyond_it n h ∙ goes_high alone_past n l m ∙ has_none (n - bits) ∙ sym (ne_eqb n i (λ e. omega arith))
+    at n (past h) (past l) = beyond_it n h ∙ goes_past alone_past n l
 
 -- **The instances of a model that is deleted go, and no others do.**
 pub goes_those : (t : List ℕ) (m : ℕ) → goes (gathered t m) ≡ goes_with t Model m
@@ -125,7 +128,7 @@ goes_those t m = fun_ext (λ j. at j (zone j))
     at : (j : ℕ) → Zone j → goes (gathered t m) j ≡ goes_with t Model m j
     at j (in_low h) = goes_low (gathered t m) j h ∙ member 0 j j h (omega arith)
     at j (in_high h l) = goes_high (gathered t m) j h l ∙ member bits (j - bits) j (omega arith) (omega arith)
-    at j (past h) = goes_past (gathered t m) j h ∙ ne_eqb j 0 (λ e. omega arith) ∙ sym (rw (le-ltb j (count_of Instance) h))
+    at j (past h) = goes_past (gathered t m) j h ∙ sym (rw (le-ltb j (count_of Instance) h))
 
 -- so the sweep by the set is the sweep of the definition
 module _ (t : List ℕ) where
@@ -141,7 +144,7 @@ neither : (a b : Bool) → (a || b) ≡ false → (a ≡ false) × (b ≡ false)
 neither false b h = (refl, h)
 neither true b h = clash true refl h
 
-module _ (t : List ℕ) (g : Going) (near : g.beyond ≡ 0) where
+module _ (t : List ℕ) (g : Going) (near : g.beyond ≡ None) where
   -- the low bits of a number tell the truth where they say no
   may_not : (j : ℕ) → may_go g j ≡ false → goes g j ≡ false
   may_not j h = at (zone j) (or_lacks g.low g.high (j % bits) h)
@@ -153,7 +156,7 @@ module _ (t : List ℕ) (g : Going) (near : g.beyond ≡ 0) where
       at (in_high l m) w =
           let same : j % bits ≡ j - bits = omega arith in
           goes_high g j l m ∙ (rw same at w.1)
-      at (past l) w = goes_past g j l ∙ ne_eqb j g.beyond (λ e. omega arith)
+      at (past l) w = goes_past g j l ∙ ap (λ (b : Option ℕ). is_the b j) near
 
   may_not_refer : (i k : ℕ) → may_refer t g i k ≡ false → refers t (goes g) i k ≡ false
   may_not_refer i k h = by_cases (may_go g (value_at t i k)) refl h
@@ -172,11 +175,15 @@ module _ (t : List ℕ) (g : Going) (near : g.beyond ≡ 0) where
       by_cases (yes q) (inr (inl e)) = ap (refers t (goes g) i) (q ∙ e) ∙ may_not_refer i 2 second
       by_cases (yes q) (inr (inr e)) = ap (refers t (goes g) i) (q ∙ e) ∙ unset_refers t (goes g) i no_reference refl
 
+nothing_there : (b : Option ℕ) → is_none b ≡ true → b ≡ None
+nothing_there None e = refl
+nothing_there (Some n) e = absurd (false≢true e)
+
 -- **An instance that is passed by stays as it is.**
 pub passed_stays : (t : List ℕ) (g : Going) (i : ℕ) → is_passed t g i ≡ true → swept_at t (goes g) i ≡ t
 passed_stays t g i h =
-    let near : g.beyond ≡ 0 = eqb-true g.beyond 0 (and_right (is_long t) (eqb g.beyond 0) (and_left (is_long t && eqb g.beyond 0) (not (may_change t g i)) h)) in
-    let still : may_change t g i ≡ false = not-true (may_change t g i) (and_right (is_long t && eqb g.beyond 0) (not (may_change t g i)) h) in
+    let near : g.beyond ≡ None = nothing_there g.beyond (and_right (is_long t) (is_near g) (and_left (is_long t && is_near g) (not (may_change t g i)) h)) in
+    let still : may_change t g i ≡ false = not-true (may_change t g i) (and_right (is_long t && is_near g) (not (may_change t g i)) h) in
     let both = neither (may_go g i || may_refer t g i 1) (may_refer t g i 2) still in
     let one = neither (may_go g i) (may_refer t g i 1) both.0 in
     rw (may_not t g near i one.0) (unchanged t (goes g) i values (λ k l. may_not_any t g near i one.1 both.1 k))

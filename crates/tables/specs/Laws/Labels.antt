@@ -1,8 +1,9 @@
 -- Models and schema instances: what a pass over the labels keeps, and that the words before the first instance decide all that is asked of them.
-use Rattle.std.specs.Prelude.{◌≡◌, Bool, false, cond, ◌&&◌, ◌||◌, not, ℕ, ◌+◌, ◌≤◌, ◌<◌, eqb, length, get_or, set, replicate}
+use Rattle.std.specs.Prelude.{◌≡◌, Bool, false, Some, None, cond, ◌&&◌, ◌||◌, not, ℕ, ◌+◌, ◌≤◌, ◌<◌, eqb, length, get_or, set, replicate}
 use Rattle.std.proofs.Math.Path.{refl, ap, fun_ext}
 use Rattle.std.proofs.Common.{◌∙◌, add-zero, arith, le-leb, length-set}
 use Rattle.std.proofs.Math.Bool.{true, and-true}
+use Rattle.std.proofs.lemmas.Bool.{lt-leb}
 use mathlib.Core.List.{List, []}
 use Rattle.words.specs.declared.layout.Kind.{Kind}
 use Rattle.words.specs.declared.layout.Kind.TheVariants.{Model, SchemaInstance, Instance}
@@ -19,7 +20,6 @@ use Rattle.words.specs.Laws.Layout.{stride_positive}
 use Rattle.words.specs.Laws.Fields.{label_test, label_is_live}
 use Rattle.words.specs.Laws.Entries.{entry_test}
 use Rattle.tables.specs.declared.live.Live.{Live}
-use Rattle.tables.specs.declared.labels.Tested.TheVariants.{Sound, Unsound}
 use Rattle.tables.specs.View.{label_at, set_at}
 use Rattle.tables.specs.Sound.{distinct, may_join, sound_group, sound_cursors, sound_entries, sound_instances, sound_table}
 use Rattle.tables.specs.Quick.Names.{is_new, chains, chain_of}
@@ -31,7 +31,7 @@ use Rattle.tables.specs.Laws.Live.{live_free, live_more}
 
 -- ---- the pass
 
--- where the first word of an entry stands, and the next entry's
+-- where the first word of an entry stands
 pub first_word : (t : List ℕ) (kind : Kind) (i : ℕ) → i < count_of kind → label_at t kind i ≡ get_or t (place_of kind i) 0
 first_word t kind i l = rw ((entry_test kind i 0).passes (l, stride_positive kind), add-zero)
 
@@ -82,29 +82,29 @@ module _ (t : List ℕ) (kind : Kind) where
         }
 
     -- the last one included
-    pub all_passed : i ≡ count_of kind → Sound live ≡ tested_labels t kind
+    pub all_passed : i ≡ count_of kind → Some live ≡ tested_labels t kind
     unfolding distinct
     all_passed e =
         let labels : all_b (count_of kind) (labelled t kind) ≡ true = all_done (labelled t kind) (count_of kind) i (omega arith) (omega arith) passed.labels in
         let names : all_b (count_of kind) (is_new t kind) ≡ true = all_done (is_new t kind) (count_of kind) i (omega arith) (omega arith) passed.names in
-        rw (labels, names) (ap Sound (passed.sets ∙ ap (live_below t kind) e))
+        rw (labels, names) (ap Some (passed.sets ∙ ap (live_below t kind) e))
 
   module _ (i : ℕ) (l : i < count_of kind) where
-    pub no_label : free_at t kind i ≡ false → is_label (label_at t kind i) ≡ false → Unsound ≡ tested_labels t kind
+    pub no_label : free_at t kind i ≡ false → is_label (label_at t kind i) ≡ false → None ≡ tested_labels t kind
     no_label live e = rw (all_stop (count_of kind) (labelled t kind) i l (rw (live, e)))
 
-    pub not_new : is_new t kind i ≡ false → Unsound ≡ tested_labels t kind
+    pub not_new : is_new t kind i ≡ false → None ≡ tested_labels t kind
     unfolding distinct
     not_new e = rw (and_ended (all_b (count_of kind) (labelled t kind)) (all_b (count_of kind) (is_new t kind)) (all_stop (count_of kind) (is_new t kind) i l e))
 
 -- ---- what an answer tells
 
-pub sound_told : (b : Bool) (live all : Live) → Sound live ≡ tested b all → (b ≡ true) × (live ≡ all)
+pub sound_told : (b : Bool) (live all : Live) → Some live ≡ tested b all → (b ≡ true) × (live ≡ all)
 sound_told true live all e = (refl, cc)
-sound_told false live all e = absurd (let z : ◌≡◌ {A = ℕ} 0 1 = cc in omega arith)
+sound_told false live all e = cc
 
-pub unsound_told : (b : Bool) (all : Live) → Unsound ≡ tested b all → b ≡ false
-unsound_told true all e = absurd (let z : ◌≡◌ {A = ℕ} 0 1 = cc in omega arith)
+pub unsound_told : (b : Bool) (all : Live) → None ≡ tested b all → b ≡ false
+unsound_told true all e = cc
 unsound_told false all e = refl
 
 -- ---- a table is sound by its entries and its instances
@@ -133,9 +133,9 @@ entries_by_labels t =
     (λ h. all_from (count_of SchemaInstance) (labelled t SchemaInstance) (λ s l. group_labelled t s (all_at (count_of SchemaInstance) (sound_group t) h s l)))
 
 module _ (t : List ℕ) where
-  pub short_unsound : is_long t ≡ false → sound_table t ≡ false
+  pub short_unsound : length t < words → sound_table t ≡ false
   unfolding sound_table
-  short_unsound e = rw (e)
+  short_unsound l = rw (lt-leb words (length t) l)
 
   pub cursors_unsound : sound_cursors t ≡ false → sound_table t ≡ false
   unfolding sound_table

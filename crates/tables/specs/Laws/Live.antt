@@ -24,7 +24,7 @@ use Rattle.dictionary.specs.Laws.Types.{type_schema}
 use Rattle.tables.specs.declared.live.Live.{Live}
 use Rattle.tables.specs.View.{is_live, label_at, set_at}
 use Rattle.tables.specs.Sound.{sound_group}
-use Rattle.tables.specs.Quick.Live.{is_of, live_of, live_below, live_in, with_live, of_schema, within, model_fits}
+use Rattle.tables.specs.Quick.Live.{is_of, live_of, live_below, live_in, AreLiveIn, with_live, of_schema, within, model_fits}
 use Rattle.logic.specs.Laws.Search.{all_same}
 
 -- ---- a set within another
@@ -79,6 +79,13 @@ module _ (t : List ℕ) (schema : ℕ) where
           let n : schema ≡ 1 → ⊥ = eqb-false schema 1 e in
           let two : 2 ≡ schema = omega arith in
           ap (λ (x : ℕ). has (live_of t Model x (count_of Model)) m) two ∙ live_has m
+
+-- the sets of a table's live models, as one value
+pub live_told : (t : List ℕ) (live : Live) → AreLiveIn t live → live ≡ live_in t Model
+live_told t live told = rw (← told.0, ← told.1)
+
+pub told_live : (t : List ℕ) (live : Live) → live ≡ live_in t Model → AreLiveIn t live
+told_live t live e = (ap (λ (l : Live). l.first) e, ap (λ (l : Live). l.second) e)
 
 -- ---- one entry more
 

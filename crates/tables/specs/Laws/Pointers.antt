@@ -1,6 +1,6 @@
 -- The one attribute of an instance that may refer, and instances that have none.
-use Rattle.std.specs.Prelude.{◌≡◌, refl, Bool, true, false, cond, not, ◌⊎◌, List, ℕ, zero, suc, ◌*◌, ◌^◌, ◌<◌, eqb}
-use Rattle.std.proofs.Common.{ap, ◌∙◌, inl, inr, zero-mul, arith, pow_pos, ltb-true, ne_eqb}
+use Rattle.std.specs.Prelude.{◌≡◌, refl, Bool, true, false, Some, None, cond, not, ◌⊎◌, List, ℕ, zero, suc, ◌*◌, ◌^◌, ◌<◌, eqb}
+use Rattle.std.proofs.Common.{sym, ap, ◌∙◌, inl, inr, zero-mul, arith, pow_pos, ltb-true, ne_eqb}
 use Rattle.std.proofs.lemmas.Bool.{false≢true}
 use Rattle.std.proofs.Math.Decide.{ℕ_discrete}
 use Rattle.std.specs.Int.Bits.{bit_and, and_zero_r}
@@ -18,12 +18,12 @@ use Rattle.tables.specs.Deletions.{refers}
 use Rattle.tables.specs.Quick.Pointers.{pointer_in, second}
 
 -- an instance with a set reference is live
-pub pointing_live : (h : ℕ) → (pointer_in h ≡ values → ⊥) → is_free h ≡ false
+pub pointing_live : (h k : ℕ) → pointer_in h ≡ Some k → is_free h ≡ false
 unfolding reference_of the_table
-pointing_live h n = ne_eqb h 0 (λ e. n (ap pointer_in e ∙ free))
+pointing_live h k n = ne_eqb h 0 (λ e. none (sym (ap pointer_in e) ∙ n))
   where
-    free : pointer_in 0 ≡ values
-    free = refl
+    none : pointer_in 0 ≡ Some k → ⊥
+    none e = cc
 
 -- ---- the mark tells whether the reference is set, and which attribute it is
 
@@ -54,12 +54,12 @@ module _ (type h : ℕ) where
       by_cases k (inr (inr e)) f = absurd (false≢true (rw e at f))
 
 pub pointer_by_mark : (h : ℕ)
-    → cond (eqb (bit_and h (mark_in (shape_of (type_in h)))) 0) values (cond (eqb (mark_in (shape_of (type_in h))) second) 1 2) ≡ pointer_in h
+    → cond (eqb (bit_and h (mark_in (shape_of (type_in h)))) 0) None (Some (cond (eqb (mark_in (shape_of (type_in h))) second) 1 2)) ≡ pointer_in h
 pointer_by_mark h = rw (mark_set (type_in h) h) (by_cases (flagged h (reference_of (type_in h))) refl)
   where
     by_cases : (b : Bool) → flagged h (reference_of (type_in h)) ≡ b
-        → cond (not b) values (cond (eqb (mark_in (shape_of (type_in h))) second) 1 2) ≡ cond b (reference_of (type_in h)) values
-    by_cases true e = mark_which (type_in h) h e
+        → cond (not b) None (Some (cond (eqb (mark_in (shape_of (type_in h))) second) 1 2)) ≡ cond b (Some (reference_of (type_in h))) None
+    by_cases true e = ap Some (mark_which (type_in h) h e)
     by_cases false e = refl
 
 -- ---- what refers
@@ -78,20 +78,21 @@ module _ (t : List ℕ) (gone : ℕ → Bool) (i : ℕ) where
   pub unset_refers : (k : ℕ) → is_set t i k ≡ false → refers t gone i k ≡ false
   unset_refers k e = rw (e, and_ended (is_reference (attribute_of (type_at t i) k)) false refl)
 
-  the_reference : (b : Bool) → flagged (header_at t i) (reference_of (type_at t i)) ≡ b → (cond b (reference_of (type_at t i)) values ≡ values → ⊥)
-      → Pointer t gone i (cond b (reference_of (type_at t i)) values)
-  the_reference false e n = absurd (n refl)
-  the_reference true e n =
+  the_reference : (b : Bool) → flagged (header_at t i) (reference_of (type_at t i)) ≡ b → (k : ℕ) → cond b (Some (reference_of (type_at t i))) None ≡ Some k
+      → Pointer t gone i k
+  the_reference false e k n = cc
+  the_reference true e k n =
       let below : reference_of (type_at t i) < values = ltb-true _ _ (and_left _ _ e) in
-      record { below = below; reference = refl; asks = rw (reference_is (type_at t i) below, e) }
+      let same : k ≡ reference_of (type_at t i) = cc in
+      rw same record { below = below; reference = refl; asks = rw (reference_is (type_at t i) below, e) }
 
-  pub the_pointer : (pointer_in (header_at t i) ≡ values → ⊥) → Pointer t gone i (pointer_in (header_at t i))
-  the_pointer n = the_reference (flagged (header_at t i) (reference_of (type_at t i))) refl n
+  pub the_pointer : (k : ℕ) → pointer_in (header_at t i) ≡ Some k → Pointer t gone i k
+  the_pointer k n = the_reference (flagged (header_at t i) (reference_of (type_at t i))) refl k n
 
-  pub no_pointer : pointer_in (header_at t i) ≡ values → (k : ℕ) → refers t gone i k ≡ false
+  pub no_pointer : pointer_in (header_at t i) ≡ None → (k : ℕ) → refers t gone i k ≡ false
   no_pointer none k = by_cases (flagged (header_at t i) (reference_of (type_at t i))) refl none (ℕ_discrete k (reference_of (type_at t i)))
     where
-      by_cases : (b : Bool) → flagged (header_at t i) (reference_of (type_at t i)) ≡ b → cond b (reference_of (type_at t i)) values ≡ values → Dec (k ≡ reference_of (type_at t i)) → refers t gone i k ≡ false
+      by_cases : (b : Bool) → flagged (header_at t i) (reference_of (type_at t i)) ≡ b → cond b (Some (reference_of (type_at t i))) None ≡ None → Dec (k ≡ reference_of (type_at t i)) → refers t gone i k ≡ false
       by_cases b e past (no n) = refers_other k n
       by_cases false e past (yes q) = unset_refers k (ap (flagged (header_at t i)) q ∙ e)
-      by_cases true e past (yes q) = absurd (omega (arith, ltb-true (reference_of (type_at t i)) values (and_left _ _ e)))
+      by_cases true e past (yes q) = cc

@@ -1,7 +1,8 @@
 -- What the clauses of sound tables say, and that tables which agree in the words in use are alike sound.
-use Rattle.std.specs.Prelude.{◌≡◌, Bool, cond, not, ◌&&◌, ◌||◌, List, ℕ, ◌+◌, ◌≤◌, ◌<◌, length, get_or}
+use Rattle.std.specs.Prelude.{◌≡◌, Bool, cond, not, ◌&&◌, ◌||◌, List, ℕ, ◌+◌, ◌≤◌, ◌<◌, length, get_or, take, Option, None, Some}
 use Rattle.std.proofs.Math.Path.{refl}
-use Rattle.std.proofs.Common.{◌∙◌}
+use Rattle.std.proofs.Common.{◌∙◌, arith, length-take}
+use Rattle.std.proofs.lemmas.List.{get_or-take}
 use Rattle.std.proofs.Math.Bool.{true, false, and-true, and_self}
 use Rattle.std.proofs.lemmas.Bool.{false≢true}
 use borrow.Author.Tests.{le-leb}
@@ -17,7 +18,7 @@ use Rattle.words.specs.Laws.Fields.{Header, header_test}
 use Rattle.words.specs.Laws.Entries.{entry_test}
 use Rattle.words.specs.Laws.Copies.{Agreeing, agree_test, agree_entries, agree_cursors}
 use Rattle.dictionary.specs.declared.answers.Attribute.{Attribute}
-use Rattle.dictionary.specs.declared.answers.Attribute.TheVariants.{Lacking, Whole, Reference}
+use Rattle.dictionary.specs.declared.answers.Attribute.TheVariants.{Whole, Reference}
 use Rattle.dictionary.specs.Dictionary.{is_type, schema_of}
 use Rattle.tables.specs.View.{is_live, label_at}
 use Rattle.tables.specs.Sound.{same_name, distinct, sound_group, sound_value, sound_header, sound_instance, sound_cursors, sound_entries, sound_instances, sound_table, sound_tables}
@@ -94,10 +95,10 @@ module _ (a b : List ℕ) (agreeing : Agreeing a b) where
   same : (kind : Kind) (i k : ℕ) → word_of a kind i k ≡ word_of b kind i k
   same = agree_entries a b agreeing
 
-  value_alike : (attribute : Attribute) (set : Bool) (v : ℕ) → sound_value a attribute set v ≡ sound_value b attribute set v
-  value_alike Lacking set v = refl
-  value_alike Whole set v = refl
-  value_alike (Reference target) set v = simp same
+  value_alike : (attribute : Option Attribute) (set : Bool) (v : ℕ) → sound_value a attribute set v ≡ sound_value b attribute set v
+  value_alike None set v = refl
+  value_alike (Some Whole) set v = refl
+  value_alike (Some (Reference target)) set v = simp same
 
   instance_alike : (i : ℕ) → sound_instance a i ≡ sound_instance b i
   unfolding sound_instance
@@ -112,6 +113,10 @@ module _ (a b : List ℕ) (agreeing : Agreeing a b) where
         all_same (count_of Instance) (sound_instance a) (sound_instance b) (λ i l. instance_alike i),
       ) (rw
       (distinct_alike a b Model (same Model), distinct_alike a b SchemaInstance (same SchemaInstance)) (simp (same, agree_cursors a b agreeing))))
+
+-- so the words in use alone decide
+pub sound_chunk : (t u : List ℕ) → words ≤ length t → u ≡ take words t → sound_table u ≡ sound_table t
+sound_chunk t u h e = rw e (sound_alike (take words t) t record { left = simp length-take (omega arith); right = h; alike = λ i l. get_or-take words t i 0 l })
 
 -- of tables that agree one tells of both; else both are looked at, and only while writing
 module _ (working kept : List ℕ) where

@@ -1,5 +1,5 @@
 -- The values of an instance as the code asks for them are those of Sound.antt.
-use Rattle.std.specs.Prelude.{◌≡◌, refl, Bool, true, false, cond, not, ◌&&◌, ◌||◌, List, ℕ, zero, suc, ◌+◌, ◌-◌, ◌*◌, ◌/◌, ◌%◌, ◌^◌, ◌≤◌, ◌<◌, ltb, length, get_or}
+use Rattle.std.specs.Prelude.{◌≡◌, refl, Bool, true, false, cond, not, ◌&&◌, ◌||◌, List, ℕ, zero, suc, ◌+◌, ◌-◌, ◌*◌, ◌/◌, ◌%◌, ◌^◌, ◌≤◌, ◌<◌, ltb, length, get_or, Option, None, Some}
 use Rattle.std.proofs.Common.{sym, ◌∙◌, true≢false, add-zero, lt_of_lt_of_le, div-add-mod', mod-lt, zero-mul, suc-mul, add-suc, pow-suc, arith, pow_mono, pow_pos, eq-eqb, ne_eqb, eqb-true, lt-ltb, le-ltb, ltb-true}
 use Rattle.std.proofs.Math.Path.{ap}
 use Rattle.std.proofs.Math.Bool.{and-true}
@@ -21,7 +21,7 @@ use Rattle.logic.specs.Laws.Search.{all_at, all_from, all_same, all_both, all_on
 use Rattle.words.specs.Laws.Fields.{Header, flag_of_flags}
 use Rattle.words.specs.Laws.Entries.{entry_test}
 use Rattle.dictionary.specs.declared.answers.Attribute.{Attribute}
-use Rattle.dictionary.specs.declared.answers.Attribute.TheVariants.{Lacking, Whole, Reference}
+use Rattle.dictionary.specs.declared.answers.Attribute.TheVariants.{Whole, Reference}
 use Rattle.dictionary.specs.Dictionary.{types, is_type, schema_of, lacks, is_reference, attributes_of, attribute_of, the_table}
 use Rattle.dictionary.proofs.Laws.Attributes.{attribute_lacks, attributes_few}
 use Rattle.dictionary.specs.Quick.References.{reference_of}
@@ -33,20 +33,20 @@ use Rattle.tables.specs.declared.live.Live.{Live}
 use Rattle.tables.specs.View.{is_live, label_at, header_at, type_at, value_at}
 use Rattle.tables.specs.Sound.{sound_value, sound_header, sound_instance, sound_instances}
 use Rattle.tables.specs.Quick.Live.{live_in, model_fits}
-use Rattle.tables.specs.Quick.Values.{strays_in, word_fits, unset_of, words_fit, target_fits, reference_fits, live_fits, instance_fits}
+use Rattle.tables.specs.Quick.Values.{no_value, strays_in, word_fits, unset_of, words_fit, target_fits, reference_fits, live_fits, instance_fits}
 use Rattle.tables.specs.Quick.Pointers.{second}
 use Rattle.tables.specs.Laws.Sound.{live_below_lem, sound_header_test}
-use Rattle.tables.specs.Laws.Live.{model_by_sets}
 use Rattle.tables.specs.Laws.Labels.{first_word}
+use Rattle.tables.specs.Laws.Live.{model_by_sets}
 use Rattle.tables.specs.Laws.Pointers.{mark_set, mark_which}
 
 -- ---- one value: its flag, what the flag leaves, and what a reference asks for besides
 
 -- of the attributes that a type has, only a reference asks for more than a value word
-abbrev names_right : List ℕ → Attribute → ℕ → Bool
-names_right t Lacking v = true
-names_right t Whole v = true
-names_right t (Reference target) v = is_live t Instance v && subtype (type_at t v) target
+abbrev names_right : List ℕ → Option Attribute → ℕ → Bool
+names_right t None v = true
+names_right t (Some Whole) v = true
+names_right t (Some (Reference target)) v = is_live t Instance v && subtype (type_at t v) target
 
 unset_small : (v : ℕ) → (ltb v 0x1_0000_0000 && eqb v 0) ≡ (eqb v 0 && true)
 unset_small v = by_cases (eqb v 0) refl
@@ -57,17 +57,17 @@ unset_small v = by_cases (eqb v 0) refl
         rw (lt-ltb v 0x1_0000_0000 (omega arith))
     by_cases false e = and_ended (ltb v 0x1_0000_0000) false refl
 
-value_parts : (t : List ℕ) (a : Attribute) (set : Bool) (v : ℕ) → sound_value t a set v ≡ ((not set || not (lacks a)) && (word_fits set v && (not set || names_right t a v)))
-value_parts t Lacking true v = refl
-value_parts t Lacking false v = sym (and-true (eqb v 0))
-value_parts t Whole true v = refl
-value_parts t Whole false v = unset_small v
-value_parts t (Reference target) true v = by_cases (is_live t Instance v) refl
+value_parts : (t : List ℕ) (a : Option Attribute) (set : Bool) (v : ℕ) → sound_value t a set v ≡ ((not set || not (lacks a)) && (word_fits set v && (not set || names_right t a v)))
+value_parts t None true v = refl
+value_parts t None false v = sym (and-true (eqb v 0))
+value_parts t (Some Whole) true v = refl
+value_parts t (Some Whole) false v = unset_small v
+value_parts t (Some (Reference target)) true v = by_cases (is_live t Instance v) refl
   where
     by_cases : (b : Bool) → is_live t Instance v ≡ b → (b && subtype (type_at t v) target) ≡ (ltb v 0x1_0000_0000 && (b && subtype (type_at t v) target))
     by_cases true e = rw (lt-ltb v 0x1_0000_0000 (omega (arith, live_below_lem t Instance v e)))
     by_cases false e = sym (and_ended (ltb v 0x1_0000_0000) false refl)
-value_parts t (Reference target) false v = sym (and-true (eqb v 0))
+value_parts t (Some (Reference target)) false v = sym (and-true (eqb v 0))
 
 -- ---- the flags
 
@@ -223,10 +223,10 @@ strays_test h type = by_cases (dec_lt h 0x10_0000)
 
 -- ---- the one reference
 
-names_right_lem : (t : List ℕ) (a : Attribute) (v : ℕ) → is_reference a ≡ false → names_right t a v ≡ true
-names_right_lem t Lacking v e = refl
-names_right_lem t Whole v e = refl
-names_right_lem t (Reference target) v e = absurd (true≢false e)
+names_right_lem : (t : List ℕ) (a : Option Attribute) (v : ℕ) → is_reference a ≡ false → names_right t a v ≡ true
+names_right_lem t None v e = refl
+names_right_lem t (Some Whole) v e = refl
+names_right_lem t (Some (Reference target)) v e = absurd (true≢false e)
 
 -- a header of one of the types; every live instance has such a one: then a target is told by its type alone
 abbrev Typed : ℕ → Type 0
@@ -257,10 +257,10 @@ module _ (t : List ℕ) (all_typed : AllTyped t) (type h : ℕ) (value : ℕ →
   not_asked : (k : ℕ) → (k ≡ reference_of type → ⊥) → asked k ≡ true
   not_asked k apart = or_right (not (flagged h k)) _ (names_right_lem t (attribute_of type k) (value k) (reference_other type k apart))
 
-  target_asked : (v : ℕ) (a : Attribute) → attribute_of type (reference_of type) ≡ a → is_reference a ≡ true → names_right t a v ≡ target_fits t (shape_of type) v
-  target_asked v Lacking w e = absurd (false≢true e)
-  target_asked v Whole w e = absurd (false≢true e)
-  target_asked v (Reference target) w e = by_cases (eqb (header_at t v) 0) refl
+  target_asked : (v : ℕ) (a : Option Attribute) → attribute_of type (reference_of type) ≡ a → is_reference a ≡ true → names_right t a v ≡ target_fits t (shape_of type) v
+  target_asked v None w e = absurd (false≢true e)
+  target_asked v (Some Whole) w e = absurd (false≢true e)
+  target_asked v (Some (Reference target)) w e = by_cases (eqb (header_at t v) 0) refl
     where
       by_cases : (free : Bool) → eqb (header_at t v) 0 ≡ free → (not free && subtype (type_at t v) target) ≡ target_fits t (shape_of type) v
       by_cases false live =
@@ -281,14 +281,14 @@ module _ (t : List ℕ) (all_typed : AllTyped t) (type h : ℕ) (value : ℕ →
       by_cases (no l) = rw (le-ltb (reference_of type) values (omega arith)) (all_from values asked (λ k m. not_asked k (λ e. omega arith)))
 
   -- the mark tells which word it is
-  reference_parts : all_b values asked ≡ reference_fits t (shape_of type) h (value 1) (value 2)
+  reference_parts : all_b values asked ≡ reference_fits t (shape_of type) h value
   reference_parts = reference_asked ∙ by_cases (flagged h (reference_of type)) refl
     where
       chosen : (b : Bool) → value (cond b 1 2) ≡ cond b (value 1) (value 2)
       chosen true = refl
       chosen false = refl
 
-      by_cases : (b : Bool) → flagged h (reference_of type) ≡ b → (not b || target_fits t (shape_of type) (value (reference_of type))) ≡ reference_fits t (shape_of type) h (value 1) (value 2)
+      by_cases : (b : Bool) → flagged h (reference_of type) ≡ b → (not b || target_fits t (shape_of type) (value (reference_of type))) ≡ reference_fits t (shape_of type) h value
       by_cases false e = rw (mark_set type h, e)
       by_cases true e =
           rw (mark_set type h, e) (ap (target_fits t (shape_of type)) (ap value (sym (mark_which type h e)) ∙ chosen (eqb (mark_in (shape_of type)) second)))
@@ -323,19 +323,19 @@ module _ (t : List ℕ) (all_typed : AllTyped t) (h : ℕ) (value : ℕ → ℕ)
   has_its k = not (flagged h k) || not (lacks (attribute_of (type_in h) k))
 
   at_once_parts : is_type (type_in h) ≡ true
-      → (there && words_fit (shape_of (type_in h)) h (value 0) (value 1) (value 2) (value 3)) ≡ (ltb (model_in h) bits && there && flags_fit h && all_b values word_fits_lem)
+      → (there && words_fit (shape_of (type_in h)) h value) ≡ (ltb (model_in h) bits && there && flags_fit h && all_b values word_fits_lem)
   unfolding all_b
   at_once_parts type =
       rw (strays_test h type) (regrouped there (ltb (model_in h) bits) (flags_fit h) (word_fits_lem 0) (word_fits_lem 1) (word_fits_lem 2) (word_fits_lem 3) (eqb (value 3) 0)
       (λ e. ap (λ (set : Bool). word_fits set (value 3)) (no_fourth h e)))
 
   values_parts : all_b values (λ k. sound_value t (attribute_of (type_in h) k) (flagged h k) (value k)) ≡ (all_b values has_its &&
-      (all_b values word_fits_lem && reference_fits t (shape_of (type_in h)) h (value 1) (value 2)))
+      (all_b values word_fits_lem && reference_fits t (shape_of (type_in h)) h value))
   values_parts =
       rw (← reference_parts t all_typed (type_in h) h value, all_both values word_fits_lem (asked t all_typed (type_in h) h value), all_both values)
       (all_same values _ _ (λ k l. value_parts t (attribute_of (type_in h) k) (flagged h k) (value k)))
 
-  live_by_parts : live_fits t (live_in t Model) h (value 0) (value 1) (value 2) (value 3) ≡ (sound_header t h && all_b values (λ k. sound_value t (attribute_of (type_in h) k) (flagged h k) (value k)))
+  live_by_parts : live_fits t (live_in t Model) h value ≡ (sound_header t h && all_b values (λ k. sound_value t (attribute_of (type_in h) k) (flagged h k) (value k)))
   live_by_parts = rw values_parts (by_cases (eqb (h % 256) 0) (is_type (type_in h)) refl refl _)
     where
       none : (a b : Bool) → eqb (h % 256) 0 ≡ a → is_type (type_in h) ≡ b → (a || not b) ≡ true → sound_header t h ≡ false
@@ -343,7 +343,7 @@ module _ (t : List ℕ) (all_typed : AllTyped t) (h : ℕ) (value : ℕ → ℕ)
           true≢false (sym e ∙ rw (← p, ← q, ne_eqb (h % 256) 0 (λ z. omega (arith, w.header.typed)), w.type)))
 
       by_cases : (a b : Bool) → eqb (h % 256) 0 ≡ a → is_type (type_in h) ≡ b → (r : Bool)
-          → (not (a || not b) && there && words_fit (shape_of (type_in h)) h (value 0) (value 1) (value 2) (value 3) && r) ≡ (sound_header t h && (all_b values has_its && (all_b values word_fits_lem && r)))
+          → (not (a || not b) && there && words_fit (shape_of (type_in h)) h value && r) ≡ (sound_header t h && (all_b values has_its && (all_b values word_fits_lem && r)))
       by_cases true b p q r = rw (none true b p q refl)
       by_cases false false p q r = rw (none false false p q refl)
       by_cases false true p q r = rw (at_once_parts q) (rw (header_parts t h (eqb-false (h % 256) 0 p) q) (grouped (sound_header t h) _ _ r))
@@ -383,8 +383,6 @@ module _ (t : List ℕ) (live : Live) (i : ℕ) (within : i < count_of Instance)
   value_there k l = rw ((entry_test Instance i (1 + k)).passes (within, omega arith))
 
   pub fits_there : (let h = get_or t (place_of Instance i) 0 in
-      cond (eqb h 0)
-      (eqb (value_word 0) 0 && eqb (value_word 1) 0 && eqb (value_word 2) 0 && eqb (value_word 3) 0)
-      (live_fits t live h (value_word 0) (value_word 1) (value_word 2) (value_word 3)) ≡ instance_fits t live i)
+      cond (eqb h 0) (no_value value_word) (live_fits t live h value_word) ≡ instance_fits t live i)
   unfolding all_b
   fits_there = rw (first_word t Instance i within, value_there 0 (omega arith), value_there 1 (omega arith), value_there 2 (omega arith), value_there 3 (omega arith))

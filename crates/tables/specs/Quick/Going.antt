@@ -1,5 +1,5 @@
 -- The instances that go with a deletion, as a set of numbers.
-use Rattle.std.specs.Prelude.{ℕ, ◌+◌, ◌-◌, ◌%◌, Bool, cond, not, ◌&&◌, ◌||◌, List, eqb, ltb}
+use Rattle.std.specs.Prelude.{ℕ, ◌+◌, ◌-◌, ◌%◌, Bool, false, Option, Some, None, cond, not, ◌&&◌, ◌||◌, List, eqb, ltb, is_none}
 use Rattle.std.specs.Int.Bits.{bit_or}
 use Rattle.words.specs.declared.layout.Kind.TheVariants.{Model, Instance}
 use Rattle.words.specs.Layout.{count_of}
@@ -9,9 +9,14 @@ use Rattle.tables.specs.declared.going.Going.{Going}
 use Rattle.tables.specs.View.{is_set, value_at}
 use Rattle.tables.specs.Deletions.{goes_with}
 
+-- a number is the one there may be
+abbrev pub is_the : Option ℕ → ℕ → Bool
+is_the None j = false
+is_the (Some n) j = eqb j n
+
 -- bit j of `low` for a number below 64, of `high` for those up to 127; past the last instance one number at most
 abbrev pub goes : Going → ℕ → Bool
-goes g j = cond (ltb j bits) (has g.low j) (cond (ltb j (count_of Instance)) (has g.high (j - bits)) (eqb j g.beyond))
+goes g j = cond (ltb j bits) (has g.low j) (cond (ltb j (count_of Instance)) (has g.high (j - bits)) (is_the g.beyond j))
 
 -- a number may go, by its low bits
 abbrev pub may_go : Going → ℕ → Bool
@@ -25,13 +30,16 @@ may_refer t g i k = may_go g (value_at t i k) && is_set t i k
 abbrev pub may_change : List ℕ → Going → ℕ → Bool
 may_change t g i = may_go g i || may_refer t g i 1 || may_refer t g i 2
 
+-- no number past the last instance goes
+abbrev pub is_near : Going → Bool
+is_near g = is_none g.beyond
+
 -- the sweep passes by instance i, which stays as it is (`passed_stays`)
 abbrev pub is_passed : List ℕ → Going → ℕ → Bool
-is_passed t g i = is_long t && eqb g.beyond 0 && not (may_change t g i)
+is_passed t g i = is_long t && is_near g && not (may_change t g i)
 
--- 0 is no number past the last instance
 abbrev pub nothing : Going
-nothing = record { low = none; high = none; beyond = 0 }
+nothing = record { low = none; high = none; beyond = None }
 
 abbrev pub with_number : Going → ℕ → Going
 with_number g j =
@@ -39,7 +47,7 @@ with_number g j =
     (record { low = insert g.low j; high = g.high; beyond = g.beyond })
     (cond (ltb j (count_of Instance))
     (record { low = g.low; high = insert g.high (j - bits); beyond = g.beyond })
-    (record { low = g.low; high = g.high; beyond = j }))
+    (record { low = g.low; high = g.high; beyond = Some j }))
 
 -- what goes with the deletion of instance i
 abbrev pub one_going : ℕ → Going
@@ -51,4 +59,4 @@ half_of t m from = set_of bits (λ j. goes_with t Model m (from + j))
 
 -- what goes with the deletion of model m
 abbrev pub gathered : List ℕ → ℕ → Going
-gathered t m = record { low = half_of t m 0; high = half_of t m bits; beyond = 0 }
+gathered t m = record { low = half_of t m 0; high = half_of t m bits; beyond = None }

@@ -1,6 +1,7 @@
 -- The live entries of each schema as sets, and the tests of Sound.antt that they answer.
-use Rattle.std.specs.Prelude.{ℕ, ◌%◌, Bool, cond, not, ◌&&◌, ◌||◌, List, eqb}
+use Rattle.std.specs.Prelude.{◌≡◌, ℕ, ◌%◌, Bool, cond, not, ◌&&◌, ◌||◌, List, eqb}
 use Rattle.words.specs.declared.layout.Kind.{Kind}
+use Rattle.words.specs.declared.layout.Kind.TheVariants.{Model}
 use Rattle.words.specs.Layout.{count_of}
 use Rattle.logic.specs.Search.{all_b}
 use Rattle.words.specs.Sets.{bits, none, has, insert, set_of}
@@ -22,6 +23,10 @@ live_below t kind n = record { first = live_of t kind 1 n; second = live_of t ki
 
 abbrev pub live_in : List ℕ → Kind → Live
 live_in t kind = live_below t kind (count_of kind)
+
+-- these are the sets of the table's live models
+abbrev pub AreLiveIn : List ℕ → Live → Type 0
+AreLiveIn t live = (live.first ≡ live_of t Model 1 (count_of Model)) × (live.second ≡ live_of t Model 2 (count_of Model))
 
 abbrev pub no_live : Live
 no_live = record { first = none; second = none }

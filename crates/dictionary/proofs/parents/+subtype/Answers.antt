@@ -11,11 +11,11 @@ returns-then-a-b t c =
     sym (ap (λ (x : ℕ). spec.subtype x b) c.if-a-b.true ∙ subtype_same b)
 
 pub subtype-requires : goal.subtype-requires
-subtype-requires t c = (rw c.decreases at (parent_lower c.args.a c.in-Is.p (sym c.parent.ensures ∙ c.in-Is.is)), tt)
+subtype-requires t c = (rw c.decreases at (parent_lower c.args.a c.in-Some.p (sym c.parent.ensures ∙ c.in-Some.is)), tt)
 
-pub returns-in-Is : goal.returns-in-Is
-returns-in-Is t c =
-    c.subtype.ensures ∙ sym (subtype_up c.args.a c.args.b c.in-Is.p c.if-a-b.false (sym c.parent.ensures ∙ c.in-Is.is))
+pub returns-in-Some : goal.returns-in-Some
+returns-in-Some t c =
+    c.subtype.ensures ∙ sym (subtype_up c.args.a c.args.b c.in-Some.p c.if-a-b.false (sym c.parent.ensures ∙ c.in-Some.is))
 
-pub returns-in-Root : goal.returns-in-Root
-returns-in-Root t c = sym (subtype_root c.args.a c.args.b c.if-a-b.false (sym c.parent.ensures ∙ c.in-Root.is))
+pub returns-in-None : goal.returns-in-None
+returns-in-None t c = sym (subtype_root c.args.a c.args.b c.if-a-b.false (sym c.parent.ensures ∙ c.in-None.is))

@@ -1,15 +1,14 @@
--- An attribute that is lacking is refused, a whole one asks nothing, a reference has its own checks.
+-- By whether there is such an attribute, and of which kind it is.
 use Rattle.checks.specs.Checks.{first_of}
+use Rattle.session.specs.Laws.Rows.{whole_asks_nothing, reference_asks}
 use Rattle.session.proofs.writers.putting.Goals as goal
 
-pub returns-in-Lacking : goal.returns-in-Lacking
+pub returns-in_default : goal.returns-in_default
 unfolding first_of
-returns-in-Lacking c = rw c.in-Lacking.is c.on.ensures
+returns-in_default c = λ rest. rw (c.in_default.is, c.on.ensures)
 
 pub returns-in-Whole : goal.returns-in-Whole
-unfolding first_of
-returns-in-Whole c = rw c.in-Whole.is
+returns-in-Whole c = whole_asks_nothing _ _ c.in-Some.is _ _ _ c.in-Whole.is
 
 pub returns-in-Reference : goal.returns-in-Reference
-unfolding first_of
-returns-in-Reference c = rw c.in-Reference.is c.reference.ensures
+returns-in-Reference c = reference_asks _ _ c.in-Some.is _ _ _ _ _ c.in-Reference.is c.reference.ensures

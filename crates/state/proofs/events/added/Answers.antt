@@ -1,8 +1,4 @@
-use mathlib.Core.Path.{◌≡◌, refl, ap}
-use native.Mathlib.Omega.{arith}
-use native.Mathlib.Numerals.{add-one}
-use borrow.Author.Tests.{le-ltb}
-use borrow.Author.Rules.{rules}
+use Rattle.std.proofs.Common.{rules, arith, ◌≡◌, refl, ap, add-one, le-ltb}
 use Rattle.state.specs.States.{log}
 use Rattle.state.specs.Quick.Events.{moved_on}
 use Rattle.state.specs.Laws.Events.{all_moved}
@@ -10,15 +6,15 @@ use Rattle.state.proofs.events.added.Goals as goal
 
 pub loop-i-init : goal.loop-i-init
 unfolding moved_on
-loop-i-init c = (omega arith, refl)
+loop-i-init c = refl
 
 pub loop-i-preserved : goal.loop-i-preserved
 unfolding moved_on
-loop-i-preserved c = (omega arith, rw (add-one, c.loop-i.invariant.1))
+loop-i-preserved c = rw (add-one, c.loop-i.invariant)
 
 pub returns : goal.returns
 returns c =
     let a = c.args in
     let at_end : c.loop-i.i ≡ 15 = omega arith in
-    rw (le-ltb a.n 16 c.if-n-lt-SLOTS.false, c.loop-i.invariant.1, at_end)
+    rw (le-ltb a.n 16 c.if-n.false, c.loop-i.invariant, at_end)
     (ap (log a.n) (all_moved a.before a.e (search rules)))

@@ -1,21 +1,21 @@
-use mathlib.Core.Path.{refl}
-use lib.ListN.{get_or}
-use native.Mathlib.Omega.{arith}
-use native.Mathlib.Numerals.{add-one}
+use mathlib.Core.Path.{ap, ◌∙◌}
+use Prim.Native.Nat.{ℕ}
+use lib.ListN.{take}
+use lib.Dec.{eqb}
+use Rattle.std.proofs.Common.{rules, arith}
+use Rattle.std.proofs.lemmas.Iterator.{YieldsList-from_slice, YieldsList-from_zip}
+use Rattle.std.proofs.lemmas.Iterator.Consumers.{fold_from_yields_List}
 use Rattle.logic.specs.Search.{all_b}
-use Rattle.words.specs.Laws.Copies.{no_difference}
+use Rattle.words.specs.Copies.{same_at}
+use Rattle.tables.proofs.Chains.{gathered, differences_gathered}
 use Rattle.tables.proofs.sound.same_entries.Goals as goal
 
-pub loop-i-init : goal.loop-i-init
-unfolding all_b
-loop-i-init c = (omega arith, c.base-n.ensures, refl)
-
-pub loop-i-preserved : goal.loop-i-preserved
-unfolding all_b
-loop-i-preserved c =
+pub returns : goal.returns
+returns c =
     let a = c.args in
-    let the_loop = c.loop-i in (
-      omega arith,
-      the_loop.invariant.1,
-      rw (add-one, no_difference the_loop.differing (get_or a.a.now the_loop.i 0) (get_or a.b.now the_loop.i 0), the_loop.invariant.2),
-    )
+    let n = c.base-n.result in
+    ap (λ (d : ℕ). eqb d 0)
+    (fold_from_yields_List _ gathered 0 _ c.fold.ensures.ran (YieldsList-from_zip (YieldsList-from_slice (take n a.a.now) cc) (YieldsList-from_slice (take n a.b.now) cc))
+    (λ d x r q k. search rules))
+    ∙ differences_gathered a.a.now a.b.now n (omega arith) (omega arith)
+    ∙ ap (λ (n : ℕ). all_b n (same_at a.a.now a.b.now)) c.base-n.ensures

@@ -1,31 +1,13 @@
--- A table is sound by its length, its cursors, its entries and its instances: the first that fails decides.
-use Rattle.tables.specs.Sound.{sound_cursors, sound_entries}
-use Rattle.tables.specs.Quick.Live.{live_in}
-use mathlib.Core.Path.{◌≡◌, sym, ◌∙◌}
-use mathlib.Core.Bool.{true}
-use Prim.Native.Nat.{◌≤◌}
-use lib.ListN.{length}
-use borrow.Author.Tests.{leb-true}
-use Rattle.words.specs.declared.layout.Kind.TheVariants.{Model}
-use Rattle.words.specs.Layout.{words}
-use Rattle.tables.specs.Laws.Labels.{sound_told, unsound_told, short_unsound, cursors_unsound, entries_unsound, sound_by_instances}
+-- The words in use decide (`sound_chunk`).
+use mathlib.Core.Path.{sym, ◌∙◌}
+use Rattle.tables.specs.Laws.Sound.{sound_chunk}
+use Rattle.tables.specs.Laws.Labels.{short_unsound}
 use Rattle.tables.proofs.sound.sound_table.Goals as goal
 
-pub returns-then-not-is_long : goal.returns-then-not-is_long
-returns-then-not-is_long c = sym (short_unsound c.args.t.now (sym c.is_long.ensures ∙ c.if-not-is_long.true))
-
-pub returns-then-not-sound_cursors : goal.returns-then-not-sound_cursors
-returns-then-not-sound_cursors c = sym (cursors_unsound c.args.t.now (sym c.sound_cursors.ensures ∙ c.if-not-sound_cursors.true))
-
 pub returns-in_default : goal.returns-in_default
-returns-in_default c =
-    sym (entries_unsound c.args.t.now
-    (unsound_told _ _ (sym c.in_default.is ∙ c.test_entries.ensures)))
+returns-in_default c = sym (short_unsound c.args.t.now c.in_default.ensures.cases)
 
 pub returns : goal.returns
 returns c =
-    let a = c.args in
-    let long : words ≤ length c.args.t.now = leb-true words (length c.args.t.now) (sym c.is_long.ensures ∙ c.if-not-is_long.false) in
-    let cursors : sound_cursors c.args.t.now ≡ true = sym c.sound_cursors.ensures ∙ c.if-not-sound_cursors.false in
-    let entries : ((sound_entries a.t.now ≡ true) × (c.in-Sound.live ≡ live_in a.t.now Model)) = sound_told _ _ _ (sym c.in-Sound.is ∙ c.test_entries.ensures) in
-    c.sound_instances.ensures ∙ sound_by_instances a.t.now long cursors entries.0
+    let first = c.in-Some.ensures.cases in
+    c.sound_words.ensures ∙ sound_chunk c.args.t.now c.in-Some.t.now first.enough first.same

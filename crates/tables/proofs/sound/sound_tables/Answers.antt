@@ -17,8 +17,8 @@ returns-then-writing c =
     c.sound_pair.ensures ∙ sym (sound_apart a.working.now a.kept.now a.writing (sym c.agree.ensures ∙ c.if-agree.false)
     ∙ rw c.if-writing.true (and-true (sound_table a.working.now && sound_table a.kept.now)))
 
-pub returns : goal.returns
-returns c =
+pub returns-else-writing : goal.returns-else-writing
+returns-else-writing c =
     let a = c.args in
-    sym (sound_apart a.working.now a.kept.now a.writing (sym c.agree.ensures ∙ c.if-agree.false)
+    c.if-writing.false ∙ sym (sound_apart a.working.now a.kept.now a.writing (sym c.agree.ensures ∙ c.if-agree.false)
     ∙ and_ended (sound_table a.working.now && sound_table a.kept.now) a.writing c.if-writing.false)

@@ -1,18 +1,20 @@
-use mathlib.Core.Path.{refl}
-use lib.ListN.{get_or}
-use native.Mathlib.Omega.{arith}
-use native.Mathlib.Numerals.{add-one}
-use Rattle.logic.specs.Search.{all_b}
-use Rattle.words.specs.Laws.Copies.{no_difference}
+use mathlib.Core.Path.{ap, ◌∙◌, sym}
+use Prim.Native.Nat.{ℕ}
+use lib.ListN.{take}
+use lib.Dec.{eqb}
+use Rattle.std.proofs.Common.{rules}
+use Rattle.std.proofs.lemmas.Iterator.{YieldsList-from_slice, YieldsList-from_zip}
+use Rattle.std.proofs.lemmas.Iterator.Consumers.{fold_from_yields_List}
+use Rattle.words.specs.Layout.{words}
+use Rattle.words.proofs.Chains.{gathered, none_gathered}
+use Rattle.words.specs.Laws.Copies.{both_long}
 use Rattle.words.proofs.copies.agree.Goals as goal
 
-pub loop-i-init : goal.loop-i-init
-unfolding all_b
-loop-i-init c = (omega arith, refl)
-
-pub loop-i-preserved : goal.loop-i-preserved
-unfolding all_b
-loop-i-preserved c =
+pub returns : goal.returns
+returns c =
     let a = c.args in
-    let the_loop = c.loop-i in
-    (omega arith, rw (add-one, no_difference the_loop.differing (get_or a.a.now the_loop.i 0) (get_or a.b.now the_loop.i 0), the_loop.invariant.1))
+    ap (λ (d : ℕ). eqb d 0)
+    (fold_from_yields_List _ gathered 0 _ c.fold.ensures.ran (YieldsList-from_zip (YieldsList-from_slice (take words a.a.now) cc) (YieldsList-from_slice (take words a.b.now) cc))
+    (λ d x r q k. search rules))
+    ∙ none_gathered a.a.now a.b.now words c.if-a-lt-WORDS.false c.if-b-lt-WORDS.false
+    ∙ sym (both_long a.a.now a.b.now c.if-a-lt-WORDS.false c.if-b-lt-WORDS.false)

@@ -1,7 +1,0 @@
--- The row's checks and effect, each part by its function's contract.
-use Rattle.checks.specs.Checks.{first_of}
-use Rattle.session.proofs.readers.get.Goals as goal
-
-pub returns : goal.returns
-unfolding first_of
-returns c = cc
