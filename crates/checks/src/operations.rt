@@ -60,6 +60,7 @@ pub enum Writer {
 
 // A number that no case names is unlisted, and the gate has FN_NAVL for it. From 20 to 45 stand those that need a transaction,
 // with gaps among them. All single numbers are cases of one `match`, so that it is one jump.
+#[tactic(auto, unfolding(crate::specs::Laws::Operations::the_list))]
 pub fn operation_of(number: u32) -> Operation
     ensures { result ≡ operation_of number }
 {
@@ -96,6 +97,7 @@ pub fn operation_of(number: u32) -> Operation
     }
 }
 
+#[tactic(auto, unfolding(crate::specs::Laws::Operations::the_list))]
 fn of_schema_instances(number: u32) -> Operation
     requires { (30 ≤ number) × (number ≤ 33) }
     ensures { result ≡ operation_of number }

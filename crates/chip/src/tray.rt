@@ -8,7 +8,7 @@ use session::answers::{carried, finished, log_stays, unsound};
 use session::call::{is_sound, serve};
 use state::state::{Answer, Order, Session, answer_of};
 
-// What it was answered; the session goes on to the next one.
+// What it was answered, as C reads it; the session goes on to the next one.
 #[repr(C)]
 #[derive(Clone, Copy, Debug, PartialEq, Eq)]
 pub struct Reply {
@@ -84,7 +84,8 @@ fn next_turn(o: Order, t: Turn, working: &mut [u64], kept: &mut [u64]) -> Turn
     turn_by(true, finished(o.op, x, given, state))
 }
 
-// It only moves structs: what branches stands in the functions that it calls.
+// It only moves structs: what branches stands in the functions that it calls. By index, since a proof knows nothing of what is
+// written by way of an iterator over the answers.
 pub fn chip_tray(
     orders: &[Order],
     answers: &mut [Reply],

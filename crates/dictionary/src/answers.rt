@@ -1,6 +1,7 @@
 // What the dictionary answers with.
 
-// An attribute: I, a whole number; or R t, which names an instance whose type is t or below it.
+// An attribute: I, a whole number; or R t, which names an instance whose type is t or below it. A type by its number, as the
+// definitions have it (`attribute_of`).
 #[derive(Clone, Copy, Debug, PartialEq, Eq)]
 pub enum Attribute {
     Whole,

@@ -6,7 +6,8 @@ use state::state::{Session, closed_state};
 use std::io;
 use words::layout::WORDS;
 
-// All that a reader holds between two calls. A call is its operation and three arguments.
+// All that a reader holds between two calls. A call is its operation and three arguments, by the page's numbers: an `Order` with
+// its four names at each of some 170 would be no plainer.
 #[derive(Drop)]
 pub struct Case<'a> {
     rt: &'a HostRuntime,

@@ -96,6 +96,7 @@ impl Run {
         }
     }
 
+    // That the count does not wrap is asked for, here and above: as a fact of the type it would be lost with each record.
     pub fn run_block(
         self,
         bytes: &[u8],

@@ -1,5 +1,5 @@
 // An order from the bytes that it begins.
-ghost use Rattle.std.specs.Prelude.{◌≡◌, ◌≤◌, ◌+◌, length};
+ghost use Rattle.std.specs.Prelude.{◌≡◌, ◌≤◌, ◌+◌};
 ghost use Rattle.records.specs.Records.{record_of, long_at};
 
 use state::state::Order;

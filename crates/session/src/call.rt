@@ -16,7 +16,8 @@ use state::refusals::Refused;
 use state::state::{Answer, Order, Session, State, Transaction};
 use tables::sound::sound_tables;
 
-// An operation on a sound state: refused at the gate, refused by its own checks, or done, and then its value.
+// Session and tables go apart everywhere, as C hands them over, and of the three each operation is lent for writing what it
+// changes. An operation on a sound state: refused at the gate, refused by its own checks, or done, and then its value.
 pub fn serve(
     order: Order,
     state: &mut State,
@@ -32,8 +33,8 @@ pub fn serve(
 }
 
 // Where the log stays, as it nearly always does, the answer is made at once: so the compiler copies the events once less. These
-// lines stand in `chip` and in the bench's face too: tried as one function, in place at each call or not, a get takes 1.7 of C
-// there and not 1.45, and an order of a long tray 35 ns and not 20.
+// lines stand in `chip` and in the bench's face too. Tried as one function: an order of a long tray takes 36 ns and not 19; and in
+// place at each call, a put in `core` takes 1.55 of C and not 1.42. The four numbers are named one by one, as C hands them over.
 pub fn core(
     op: u32,
     a: u32,

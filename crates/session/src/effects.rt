@@ -1,4 +1,4 @@
-// What operations make of the tables, but for a single change.
+// What several operations make of the tables: a commit, a drop, a creation.
 ghost use Rattle.std.specs.Prelude.{◌≡◌, List, ℕ};
 ghost use Rattle.session.specs.Effects.{if_writing, working_after, kept_after, Commit, Drop, created as created_in};
 ghost use Rattle.session.specs.Quick.Served.{serving, served, served_by};
@@ -19,7 +19,7 @@ pub fn commit_writing(s: State, working: &[u64], kept: &mut [u64])
     }
 }
 
-// What is not committed is dropped, where a transaction writes.
+// What is not committed is dropped, where a transaction writes. A function of its own: it lends the other table for writing.
 pub fn drop_writing(s: State, working: &mut [u64], kept: &[u64])
     ensures { working.new ≡ working_after (if_writing s Drop) working.old kept.now }
 {

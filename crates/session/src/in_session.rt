@@ -1,7 +1,9 @@
 // The operations that ask for an open session and no more.
-ghost use Rattle.std.specs.Prelude.{◌≡◌, [], ◌++◌, List, ℕ};
+ghost use Rattle.std.specs.Prelude.{◌≡◌, [], ◌∷◌, ◌++◌, List, ℕ};
 ghost use Rattle.checks.specs.Quick.Asked.{Asks};
-ghost use Rattle.state.specs.Numbers.{transaction_number};
+ghost use Rattle.state.specs.Refusals.{TR_EAB, ◌on◌};
+ghost use Rattle.state.specs.Numbers.{number_of, transaction_number};
+ghost use Rattle.checks.specs.Checks.{◌gives◌};
 ghost use Rattle.state.specs.States as states;
 ghost use Rattle.session.specs.Effects.{does, Stay};
 ghost use Rattle.session.specs.Rows.{◌then◌, untransacted as untransacted_of, settling as settling_of, session_row};
@@ -71,20 +73,23 @@ fn start(transaction: Transaction, s: &mut State) -> Result<u32, Refused>
     Ok(0)
 }
 
-// Of commit and abort.
-fn settling(s: State) -> Result<(), Refused>
-    ensures { Asks (λ rest. settling_of s ++ rest) result }
+// A transaction is open that is not aborted; `absent` is the refusal where there is none.
+fn in_transaction(s: State, absent: Refusal) -> Result<(), Refused>
+    ensures { Asks (λ rest. states.under s states.ABORTED gives TR_EAB on 0 ∷ states.under s states.NONE gives number_of absent on 0 ∷ rest) result }
 {
     refuse_if(
         s.under(Transaction::Aborted),
         Refusal::TrEab,
         Place::Nowhere,
     )?;
-    refuse_if(
-        s.under(Transaction::Absent),
-        Refusal::TrNexs,
-        Place::Nowhere,
-    )?;
+    refuse_if(s.under(Transaction::Absent), absent, Place::Nowhere)
+}
+
+// Of commit and abort.
+fn settling(s: State) -> Result<(), Refused>
+    ensures { Asks (λ rest. settling_of s ++ rest) result }
+{
+    in_transaction(s, Refusal::TrNexs)?;
     refuse_if(
         s.under(Transaction::ReadOnly),
         Refusal::TrNrw,
@@ -112,16 +117,7 @@ fn abort(s: &mut State, working: &mut [u64], kept: &[u64]) -> Result<u32, Refuse
 fn end_commit(s: &mut State, working: &[u64], kept: &mut [u64]) -> Result<u32, Refused>
     ensures { serving (served result s.new) working.now kept.new ≡ served_by (row_done s.old (session_row InSession.EndCommit 0 0 s.old)) working.now kept.old }
 {
-    refuse_if(
-        s.under(Transaction::Aborted),
-        Refusal::TrEab,
-        Place::Nowhere,
-    )?;
-    refuse_if(
-        s.under(Transaction::Absent),
-        Refusal::TrNexs,
-        Place::Nowhere,
-    )?;
+    in_transaction(*s, Refusal::TrNexs)?;
     commit_writing(*s, working, kept);
     *s = s.ended(Transaction::Absent);
     Ok(0)
@@ -144,19 +140,17 @@ fn end_abort(s: &mut State, working: &mut [u64], kept: &[u64]) -> Result<u32, Re
 fn storage_fault(s: &mut State, working: &mut [u64], kept: &[u64]) -> Result<u32, Refused>
     ensures { serving (served result s.new) working.new kept.now ≡ served_by (row_done s.old (session_row InSession.StorageFault 0 0 s.old)) working.old kept.now }
 {
-    refuse_if(
-        s.under(Transaction::Aborted),
-        Refusal::TrEab,
-        Place::Nowhere,
-    )?;
-    refuse_if(
-        s.under(Transaction::Absent),
-        Refusal::TrNavl,
-        Place::Nowhere,
-    )?;
+    in_transaction(*s, Refusal::TrNavl)?;
     drop_writing(*s, working, kept);
     *s = s.ended(Transaction::Aborted);
     Ok(0)
+}
+
+fn start_recording(s: &mut State) -> Result<u32, Refused>
+    ensures { (w : List ℕ) → Follows (λ s w. session_row InSession.StartRecording 0 0 s) s.old w result s.new w }
+{
+    *s = s.with_recording(1);
+    Ok(1)
 }
 
 // The value is whether it was recording.
@@ -196,10 +190,7 @@ pub fn in_session(
         InSession::Abort => abort(s, working, kept),
         InSession::EndCommit => end_commit(s, working, kept),
         InSession::EndAbort => end_abort(s, working, kept),
-        InSession::StartRecording => {
-            *s = s.with_recording(1);
-            Ok(1)
-        }
+        InSession::StartRecording => start_recording(s),
         InSession::StopRecording => stop_recording(s),
         InSession::StorageFault => storage_fault(s, working, kept),
         InSession::IsSubtype => is_subtype(o.a, o.b, *s),

@@ -21,6 +21,7 @@ pub fn own(
     ensures { serving (served result s.new) working.new kept.new ≡ served_by (row_done s.old (row_of op o.a o.b o.c s.old working.old)) working.old kept.old }
 {
     match op {
+        // The gate has refused it: this is its row (`row_of`).
         Operation::Unlisted => Ok(0),
         Operation::Opening => {
             *s = opened_state();

@@ -75,7 +75,7 @@ fn with_seen(set: u64, m: u32, repositories: u64, label: u64) -> u64
     }
 }
 
-// A table that is long enough and whose labels are sound: the tables are tested before the session. Tried as an array of its
+// A table that is long enough and whose models have sound labels: the tables are tested before the session. Tried as an array of its
 // words, whose length is then tested again: get in RO 0.58 to 0.65 of C.
 #[derive(Clone, Copy)]
 struct Tested<'a> {
@@ -136,7 +136,7 @@ fn sound_open(x: Session) -> bool
         & (log.count == 0)
 }
 
-// The table is known to be long enough and its labels sound: the tables are tested before the session.
+// What is asked of the table here is what `Tested` holds.
 #[tactic(auto, unfolding(crate::specs::Sound::sound_session))]
 pub fn sound_session(x: Session, w: &[u64]) -> bool
     requires { (words ≤ length w.now) × (all_formed w.now Model ≡ true) }

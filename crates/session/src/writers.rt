@@ -27,7 +27,8 @@ use words::layout::Kind;
 use words::search::is_taken;
 use words::sets::{has, size, with, without};
 
-// Of a model and of a schema instance; `taken` is the refusal for a name that the repository has.
+// Of a model and of a schema instance; `taken` is the refusal for a name that the repository has. Apart from `create`, which
+// hands on all that it is given: tried as one function, the goals of its four checks stay open.
 fn creating(
     kind: Kind,
     taken: Refusal,

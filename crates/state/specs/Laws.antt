@@ -1,3 +1,4 @@
 -- What callers cite of the definitions.
 pub mod Events
+pub mod Lent
 pub mod Numbers

@@ -1,6 +1,6 @@
 -- The code's refusals, places and transactions by their numbers, which are what the definitions speak of, and what an operation
 -- gives: its value, or why it is refused.
-use Rattle.std.specs.Prelude.{◌≡◌, ℕ, Result, Ok, Err}
+use Rattle.std.specs.Prelude.{◌≡◌, ℕ, List, codes, Result, Ok, Err}
 use Rattle.state.specs.declared.refusals.Refusal.{Refusal}
 use Rattle.state.specs.declared.refusals.Refusal.TheVariants as refusal
 use Rattle.state.specs.declared.refusals.Place.{Place}
@@ -81,3 +81,38 @@ value_told (Err r) = 0
 abbrev pub Numbers : ℕ → Result Refusal NoRefusal → Type 0
 Numbers n (Ok r) = number_of r ≡ n
 Numbers n (Err e) = (r : Refusal) → number_of r ≡ n → ⊥
+
+-- ---- a refusal by the page's name
+abbrev pub letters_of : Refusal → List ℕ
+letters_of refusal.SyErr = codes "SY_ERR"
+letters_of refusal.FnNavl = codes "FN_NAVL"
+letters_of refusal.SsOpn = codes "SS_OPN"
+letters_of refusal.SsNopn = codes "SS_NOPN"
+letters_of refusal.TrEab = codes "TR_EAB"
+letters_of refusal.TrExs = codes "TR_EXS"
+letters_of refusal.TrNexs = codes "TR_NEXS"
+letters_of refusal.TrNavl = codes "TR_NAVL"
+letters_of refusal.TrNrw = codes "TR_NRW"
+letters_of refusal.RpNexs = codes "RP_NEXS"
+letters_of refusal.RpOpn = codes "RP_OPN"
+letters_of refusal.RpNopn = codes "RP_NOPN"
+letters_of refusal.MoNexs = codes "MO_NEXS"
+letters_of refusal.MoDup = codes "MO_DUP"
+letters_of refusal.MoNdeq = codes "MO_NDEQ"
+letters_of refusal.MoNvld = codes "MO_NVLD"
+letters_of refusal.MxRo = codes "MX_RO"
+letters_of refusal.MxRw = codes "MX_RW"
+letters_of refusal.MxNdef = codes "MX_NDEF"
+letters_of refusal.MxNrw = codes "MX_NRW"
+letters_of refusal.SdNdef = codes "SD_NDEF"
+letters_of refusal.SiNexs = codes "SI_NEXS"
+letters_of refusal.SiDup = codes "SI_DUP"
+letters_of refusal.EdNdef = codes "ED_NDEF"
+letters_of refusal.EdNdeq = codes "ED_NDEQ"
+letters_of refusal.EdNvld = codes "ED_NVLD"
+letters_of refusal.EiNexs = codes "EI_NEXS"
+letters_of refusal.AtNdef = codes "AT_NDEF"
+letters_of refusal.VaNset = codes "VA_NSET"
+letters_of refusal.VaNvld = codes "VA_NVLD"
+letters_of refusal.VtNvld = codes "VT_NVLD"
+letters_of refusal.NoRoom = codes "NO_ROOM"

@@ -10,7 +10,7 @@ use crate::state::{Event, Log, State};
 pub const SLOTS: usize = 16;
 
 // The slot of the newest event of a full log.
-const LAST: usize = 15;
+const LAST: usize = SLOTS - 1;
 
 pub fn blank_log() -> Log
     ensures { result ≡ blank_log }

@@ -1,7 +1,7 @@
 // The refusals, by the standard's names, and the places that they name.
 ghost use Rattle.std.specs.Prelude.{◌≡◌};
 ghost use Rattle.state.specs.Refusals.{room_of};
-ghost use Rattle.state.specs.Numbers.{number_of, place_number, Numbers};
+ghost use Rattle.state.specs.Numbers.{number_of, place_number, letters_of, Numbers};
 
 use std::fmt;
 use words::layout::Kind;
@@ -114,7 +114,9 @@ impl Refusal {
     }
 
     // By the page's name.
-    fn name(self) -> &'static str {
+    fn name(self) -> &'static str
+        ensures { result.now ≡ letters_of self }
+    {
         match self {
             Refusal::SyErr => "SY_ERR",
             Refusal::FnNavl => "FN_NAVL",

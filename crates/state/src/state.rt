@@ -47,7 +47,7 @@ pub struct State {
     pub transaction: u32,
 }
 
-// A refusal, its place and the operation that it was given to. The last two bytes carry nothing: they have a name because
+// A refusal, its place and the operation that it was given to, by numbers, as C reads them. The last two bytes carry nothing: they have a name because
 // the compiler copies structs without a hole in few moves, and others field by field.
 #[repr(C)]
 #[derive(Clone, Copy, Debug, PartialEq, Eq)]
@@ -58,7 +58,7 @@ pub struct Event {
     pub unused: u16,
 }
 
-// The events that are recorded, oldest first: the first `count` slots.
+// The events that are recorded, oldest first: the first `count` slots, as C hands them over.
 #[repr(C)]
 #[derive(Clone, Copy, Debug, PartialEq, Eq)]
 pub struct Log {
@@ -74,6 +74,7 @@ pub struct Session {
     pub state: State,
 }
 
+// What C gets back: a refusal on its place, both 0 for done, the value, and the session.
 #[repr(C)]
 #[derive(Clone, Copy, Debug, PartialEq, Eq)]
 pub struct Answer {

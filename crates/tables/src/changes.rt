@@ -7,7 +7,8 @@ use crate::edits::{join, leave, put, unset};
 use words::entries::make;
 use words::layout::Kind;
 
-// A change, as an operation says it.
+// A change, as an operation says it. Each operation knows its own and might call what `apply` does for it: but a change is what
+// the definitions of effects hold (`Changed`), what `apply` writes is said in one place, and demand 3 speaks of it.
 #[derive(Clone, Copy, Debug, PartialEq, Eq)]
 pub enum Change {
     // Entry n of a kind is made with this first word.

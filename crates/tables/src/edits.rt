@@ -27,7 +27,7 @@ pub fn put(t: &mut [u64], i: u32, k: u32, v: u32)
     ensures { t.new ≡ with_value t.old i k v }
 {
     if k < VALUES {
-        write(t, Kind::Instance, i, 1 + k, v as u64);
+        write(t, Kind::Instance, i, 1 + k, u64::from(v));
         let header = with_flag(header_at(t, i), k);
         write(t, Kind::Instance, i, 0, header);
     }

@@ -41,7 +41,7 @@ impl Going {
     fn with(self, j: u32) -> Going
         ensures { result ≡ spec.with_number self j }
     {
-        let n = j as u64;
+        let n = u64::from(j);
         if n < HALF {
             return Going {
                 low: sets::with(self.low, j),

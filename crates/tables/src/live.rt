@@ -50,7 +50,7 @@ impl Live {
     pub fn model_fits(self, ty: u32, h: u64) -> bool
         ensures { result ≡ model_fits self ty h }
     {
-        (self.of_schema(schema(ty)) >> (h / 0x100 % (BITS as u64))) % 2 == 1
+        (self.of_schema(schema(ty)) >> (h / 0x100 % u64::from(BITS))) % 2 == 1
     }
 }
 

@@ -84,7 +84,8 @@ impl<'a> Table<'a> {
     }
 }
 
-// No model and no schema instance: the words before the first instance are 0. A chip in use mostly has model 0.
+// No model and no schema instance: the words before the first instance are 0. A chip in use mostly has model 0. Tried as
+// `.all(|w| *w == 0)`: open, close session on a fresh chip 0.65 to 0.85 of C.
 fn is_blank(t: &[u64; WORDS]) -> bool
     ensures { result ≡ is_blank t.now }
 {
@@ -110,7 +111,7 @@ fn test_entries(t: &[u64; WORDS]) -> Option<Live>
 fn sound_cursor(t: &[u64; WORDS], kind: Kind) -> bool
     ensures { result ≡ sound_cursor t.now kind }
 {
-    cursor_in(t, kind) < (count(kind) as u64)
+    cursor_in(t, kind) < u64::from(count(kind))
 }
 
 // Each is the number of an entry. No branch stands between the three, as in a chain over the kinds it would.
@@ -122,6 +123,7 @@ fn sound_cursors(t: &[u64; WORDS]) -> bool
         & sound_cursor(t, Kind::Instance)
 }
 
+// The table by its words. `sound_both` says the same three lines, since it goes on with the table that they make.
 fn sound_words(t: &[u64; WORDS]) -> bool
     ensures { result ≡ sound_table t.now }
 {
@@ -144,7 +146,8 @@ pub fn sound_table(t: &[u64]) -> bool
     sound_words(t)
 }
 
-// The words before the first instance are the same.
+// The words before the first instance are the same. Tried as `==` of the two slices: put of a number 0.48 to 0.55 of C. Apart from
+// `agree` of `words`, which goes over all words of slices of any length.
 fn same_entries(a: &[u64; WORDS], b: &[u64; WORDS]) -> bool
     ensures { result ≡ same_entries a.now b.now }
 {

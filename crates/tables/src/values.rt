@@ -84,6 +84,6 @@ fn strays(shape: u64, h: u64) -> u64
 fn is_target(t: &[u64; WORDS], shape: u64, v: u64) -> bool
     ensures { result ≡ target_fits t.now shape v }
 {
-    v < (count(Kind::Instance) as u64)
-        && (shape >> (t[place(Kind::Instance, v as u32)] % (BITS as u64))) % 2 == 1
+    v < u64::from(count(Kind::Instance))
+        && (shape >> (t[place(Kind::Instance, v as u32)] % u64::from(BITS))) % 2 == 1
 }

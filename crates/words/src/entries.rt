@@ -81,7 +81,8 @@ fn one_past(kind: Kind, i: u32) -> u32
     if i < last { i + 1 } else { 0 }
 }
 
-// A first word and zeros after it, over the entry's stride.
+// A first word and zeros after it, over the entry's stride. Word by word, by its number, since the table may end within the
+// entry: `write` tells.
 fn fill(t: &mut [u64], kind: Kind, i: u32, first: u64)
     ensures { t.new ≡ with_words t.old kind i first }
 {

@@ -102,6 +102,7 @@ pub fn is_flagged(header: u64, k: u32) -> bool
     flag(k).is_some_and(|m| sets::has(header, m))
 }
 
+// Apart from `without_flag`: the two differ in the one call, and a function that is handed the call is no shorter.
 pub fn with_flag(header: u64, k: u32) -> u64
     ensures { result ≡ with_flag header k }
 {

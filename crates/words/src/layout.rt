@@ -47,6 +47,7 @@ fn row_of(kind: Kind) -> Row
     }
 }
 
+// A function for each number of a row: the layers above and the theorems over the layout name the four.
 pub fn base(kind: Kind) -> usize
     ensures { result ≡ base_of kind }
 {

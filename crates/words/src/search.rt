@@ -13,6 +13,7 @@ fn first_free(t: &[u64], kind: Kind, from: u32) -> Option<u32>
     ensures { result ≡ numbered kind (first_free t.now kind from) }
 {
     let n = present(t, kind);
+    // Tried as `find`, with `or_else` for the rest: a goal on the numbers that it passes stays open.
     for i in from..n {
         if is_free(first_word(t, kind, i)) {
             return Some(i);

@@ -1,5 +1,5 @@
 -- What is left of an operation by its row: where nothing is left to ask, where a check refuses, and where none does.
-use Rattle.std.specs.Prelude.{◌≡◌, refl, false, List, [], ◌++◌, ℕ, eqb, Result, Option, Some}
+use Rattle.std.specs.Prelude.{◌≡◌, refl, List, [], ◌++◌, ℕ, Result, Option, Some}
 use Rattle.std.specs.Result.{IsErrAnd}
 use Rattle.std.proofs.lemmas.Result.{err_from_is_err_and}
 use Rattle.state.specs.declared.state.State.{State}
@@ -19,9 +19,6 @@ use Rattle.session.specs.Quick.Served.{Serving, serving, served, served_by}
 pub none_left : first_of [] ≡ done
 unfolding first_of
 none_left = refl
-
-pub refused_not_done : (r : Refused) → eqb (number_on r) done ≡ false
-refused_not_done r = number_on_done r
 
 pub row_served : (checks : List Check) (e : Effect) (s : State) (w k : List ℕ) (z : Serving) → first_of checks ≡ done
     → z ≡ served_by e w k → z ≡ served_by (row_done s (checks then e)) w k

@@ -8,12 +8,14 @@ use Rattle.state.specs.declared.state.Session.{Session}
 use Rattle.state.specs.declared.state.Answer.{Answer}
 use Rattle.state.specs.Refusals.{done}
 use Rattle.state.specs.States.{session, answer}
+use Rattle.state.specs.Quick.Lent.{sets_of, marks_of, state_of}
+use Rattle.state.specs.Laws.Lent.{state_told}
 use Rattle.checks.specs.Operations.{operation_of}
 use Rattle.session.specs.Effects.{Effect}
 use Rattle.session.specs.Rows.{performed}
 use Rattle.session.specs.Step.{outcome, finished_answer, core}
 use Rattle.session.specs.Quick.Answers.{log_stays, log_of}
-use Rattle.session.specs.Quick.Served.{Served, Serving, serving, served, served_by}
+use Rattle.session.specs.Quick.Served.{Served, Serving, serving, served, served_by, Reply, Lending, lending, lent_from, lent_by}
 use Rattle.state.specs.Laws.Numbers.{told_one}
 use Rattle.session.specs.Laws.Range.{Refused, done_or_refused}
 use Rattle.session.specs.Laws.Answers.{answer_built, answer_carried, stays_done}
@@ -58,3 +60,29 @@ module _ (op a b c : ℕ) (x : Session) (w k : List ℕ) (r : Served) (w' k' : L
 -- what was given is known by what is left
 pub given_one : (x y : Result ℕ Why) (s s' : State) (w k w' k' : List ℕ) → serving (served x s) w k ≡ serving (served y s') w' k' → x ≡ y
 given_one x y s s' w k w' k' e = told_one x y (ap (λ (z : Serving). z.served.refusal) e) (ap (λ (z : Serving). z.served.value) e)
+
+-- what is read back where the state was lent
+abbrev told_by : Lending → Serving
+told_by z = serving (record { refusal = z.reply.refusal; value = z.reply.value; state = state_of z.sets z.marks }) z.working z.kept
+
+told_back : (z : Serving) → told_by (lent_from z) ≡ z
+told_back z = ap (λ (s : State). serving (record { refusal = z.served.refusal; value = z.served.value; state = s }) z.working z.kept) (state_told z.served.state)
+
+-- the same with the state lent and read back
+module _ (op a b c : ℕ) (x : Session) (w k sets marks : List ℕ) (r : Reply) (sets' marks' w' k' : List ℕ) (state : State)
+    (lent_sets : sets ≡ sets_of x.state) (lent_marks : marks ≡ marks_of x.state)
+    (is : lending r sets' marks' w' k' ≡ lent_by (performed (operation_of op) a b c (state_of sets marks) w) w k) (back : state ≡ state_of sets' marks') where
+  abbrev read_back : Served
+  read_back = record { refusal = r.refusal; value = r.value; state = state }
+
+  before : state_of sets marks ≡ x.state
+  before = rw (lent_sets, lent_marks) (state_told x.state)
+
+  lent_served : serving read_back w' k' ≡ served_by (performed (operation_of op) a b c x.state w) w k
+  lent_served = rw (back, sym before) (ap told_by is ∙ told_back (served_by (performed (operation_of op) a b c (state_of sets marks) w) w k))
+
+  pub lent_core : outcome (answer r.refusal r.value (session state (log_of op r.refusal x state))) w' k' ≡ core op a b c x w k
+  lent_core = served_core op a b c x w k read_back w' k' lent_served
+
+  pub lent_carried : log_stays r.refusal state ≡ true → outcome (answer done r.value (session state x.log)) w' k' ≡ core op a b c x w k
+  lent_carried h = served_carried op a b c x w k read_back w' k' lent_served h

@@ -1,5 +1,5 @@
 -- What stands after i turns is `standing i`; that it is what the calls leave is `Stands` of the laws, carried from turn to turn.
-use Rattle.std.proofs.Common.{◌≡◌, ℕ, List, ◌≤◌, ◌-◌, length}
+use Rattle.std.proofs.Common.{◌≡◌, ℕ, List, ◌≤◌, length}
 use Rattle.chip.specs.declared.tray.Reply.{Reply}
 use Rattle.chip.specs.declared.tray.Turn.{Turn}
 use Rattle.session.specs.Runs.{chip_of}

@@ -4,7 +4,7 @@ use Rattle.std.proofs.Common.{◌∙◌, sym, ap, append-nil}
 use Rattle.dictionary.specs.Dictionary.{attribute_of}
 use Rattle.tables.specs.View.{header_at, type_at, model_at}
 use Rattle.state.specs.Numbers.{number_on}
-use Rattle.checks.specs.Checks.{Check, first_of}
+use Rattle.checks.specs.Checks.{first_of}
 use Rattle.session.specs.Rows.{writing, referring}
 use Rattle.session.specs.Laws.Rows.{row_refused}
 use Rattle.session.proofs.writers.put.Goals as goal

@@ -21,4 +21,4 @@ returns-then-not-goes_with c =
     let access : (has a.«rw» (model_at a.t.now a.i) ≡ c.has.result) = sym (rw (c.model_in.ensures, c.first_word-header.ensures) at c.has.ensures) in
     let pointer : (pointer_in (header_at a.t.now a.i) ≡ Some c.in-Some.k) = cc in
     c.goes_with-then-not-goes_with.ensures ∙ ap goes c.value_at.ensures
-    ∙ sym (holds_told a.t.now goes a.«rw» a.i c.in-Some.k pointer (sym c.goes_with.ensures ∙ c.if-not-goes_with.true) (access ∙ c.if-has.false))
+    ∙ sym (holds_told a.t.now goes a.«rw» a.i c.in-Some.k pointer (ap goes (sym c.from.ensures) ∙ sym c.goes_with.ensures ∙ c.if-not-goes_with.true) (access ∙ c.if-has.false))

@@ -7,7 +7,7 @@ use Rattle.std.proofs.lemmas.Iterator.Search.{any_from_yields_List}
 use Rattle.logic.specs.Search.{any_b}
 use Rattle.words.specs.Sets.{has}
 use Rattle.tables.specs.View.{set_at, share_set}
-use Rattle.tables.proofs.Chains.{any_counted}
+use Rattle.words.proofs.Chains.{any_counted}
 use Rattle.tables.proofs.view.share_set.Goals as goal
 
 pub returns : goal.returns
