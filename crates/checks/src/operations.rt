@@ -59,7 +59,8 @@ pub enum Writer {
 }
 
 // A number that no case names is unlisted, and the gate has FN_NAVL for it. From 20 to 45 stand those that need a transaction,
-// with gaps among them. All single numbers are cases of one `match`, so that it is one jump.
+// with gaps among them. All single numbers are cases of one `match`, so that it is one jump. By this name and not as
+// `From<u32>`: its theorem (`checks_operations_operation_of_one`) and the pages name it.
 #[tactic(auto, unfolding(crate::specs::Laws::Operations::the_list))]
 pub fn operation_of(number: u32) -> Operation
     ensures { result ≡ operation_of number }

@@ -11,7 +11,7 @@ use session::call::{is_sound, serve};
 use state::state::{Answer, Order, Session};
 
 // With the state lent, as in a tray: so what serves an operation is one function that both call, and no session is handed
-// over to it. The last lines are those of `core`, and say there why.
+// over to it. The last lines are those of `core`; why they stand here too is said there.
 pub fn chip_call(
     op: u32,
     a: u32,

@@ -26,7 +26,7 @@ pub struct Turn {
     pub sound: bool,
 }
 
-// How many orders are taken: none where the row of answers is shorter.
+// How many orders are taken: none, so 0, where the row of answers is shorter (`taken_of`).
 fn taken(orders: usize, places: usize) -> usize
     ensures { result ≡ taken_of orders places }
 {
@@ -67,7 +67,7 @@ fn begun(x: Session, working: &[u64], kept: &[u64]) -> Turn
 }
 
 // One order, on what the one before it left. That its last argument is a number of 32 bits is said for `chip_tray`, which reads
-// it from a row.
+// it from a row. The last lines are those of `core`; why they stand here too is said there.
 fn next_turn(o: Order, t: Turn, working: &mut [u64], kept: &mut [u64]) -> Turn
     ensures turn { turned result working.new kept.new ≡ turn_of o t working.old kept.old }
     ensures small { o.c < 2 ^ 32 }

@@ -19,7 +19,7 @@ const SUPERTYPES: [u16; TYPES as usize] = [
 ];
 
 // A number is a subtype of itself, whether or not it is a type. The table has that of types too, but to tell it first is
-// quicker.
+// quicker. A row is no set of `words`, on which the dictionary does not stand.
 #[tactic(auto, using(crate::proofs::Arms::below_types, crate::proofs::Laws::Subtypes::subtype_same, crate::proofs::Laws::Subtypes::no_type_below, crate::proofs::Laws::Subtypes::no_type_above))]
 pub fn subtype(a: u32, b: u32) -> bool
     ensures { result ≡ spec.subtype a b }

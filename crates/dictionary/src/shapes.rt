@@ -13,7 +13,7 @@ use super::types::Type;
 // An instance has room for no more.
 const ATTRIBUTES: u32 = 4;
 
-// The flag of attribute k, none for a number that no attribute has.
+// The flag of attribute k as a mask: 0, the empty one, for a number that no attribute has (`flag_of`).
 fn flag(k: u32) -> u64
     ensures { result ≡ flag_of k }
 {
@@ -68,7 +68,7 @@ pub fn attributes_in(shape: u64) -> u32
     (shape / 0x1000 % 4) as u32
 }
 
-// The flag of the reference as a header has it, 0 if there is none.
+// The flag of the reference as a header has it, as a mask: 0, the empty one, if there is none (`mark_in`).
 pub fn mark_in(shape: u64) -> u64
     ensures { result ≡ mark_in shape }
 {

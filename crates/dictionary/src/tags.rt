@@ -1,7 +1,7 @@
-// What a type asks of an instance, by its tag: the low four bits of a header, which are its type and 1. The test of an instance
-// is to come here for each, so every tag has an arm, those of no type too, and the compiler makes tables of them that are read with
-// no test before: each answer is worked out from its type's shape when the library is compiled. What a tag of no type is told
-// here is of no weight, since no model is there for it.
+// What a type asks of an instance, by its tag: the low four bits of a header, which are its type and 1. Made for the test of an
+// instance, which asks `shape` still (docs/PORT.md). Every tag has an arm, those of no type too, and the compiler makes tables of
+// them that are read with no test before: each answer is worked out from its type's shape when the library is compiled. What a
+// tag of no type is told here is of no weight, since no model is there for it.
 ghost use Rattle.std.specs.Prelude.{◌≡◌, ◌-◌, min};
 ghost use Rattle.dictionary.specs.Quick.Tags.{bars_of, names_of};
 

@@ -85,8 +85,8 @@ fn named(text: &str) -> Name
     }
 }
 
-// The last two types are of schema 2, the others of schema 1; a number that is no type is of schema 0
-// and has no letters in its name: so `schema_of` and `name_of` have it, with their theorems.
+// The last two types are of schema 2, the others of schema 1; a number that is no type is of schema 0 and has no letters in its
+// name: so `schema_of` and `name_of` have it, with their theorems.
 #[tactic(auto, using(crate::specs::Laws::Types::no_type_schema))]
 pub fn schema(t: u32) -> u32
     ensures { result ≡ schema_of t }

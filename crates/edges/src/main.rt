@@ -1,6 +1,7 @@
 // The page's cases at the edges that are not proved one by one, and what is easy to get wrong: each is run from
 // fresh, through `call`, so every state on the way is judged too. A case prints its name and then each call that it is
-// about, with the value, or the refusal by its name and its place. The calls that only lead there print nothing unless they are refused.
+// about, with the value, or the refusal by its name and its place. The calls that only lead there print nothing unless they are
+// refused.
 #![tactic(auto)]
 
 mod access;

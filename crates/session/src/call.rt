@@ -1,5 +1,6 @@
-// One call. `call` judges whatever comes in; `core` is the machine without that judgement, for a caller whose state is
-// proved sound.
+// One call. `call` judges whatever comes in; `core` is the machine without that judgement, for a caller whose state is proved
+// sound. State and tables go apart everywhere, as C hands them over, and of the three each operation is lent for writing what it
+// changes.
 ghost use Rattle.std.specs.Prelude.{◌≡◌};
 ghost use Rattle.checks.specs.Operations.{operation_of};
 ghost use Rattle.session.specs.Rows.{performed};
@@ -16,8 +17,7 @@ use state::refusals::Refused;
 use state::state::{Answer, Order, Session, State, Transaction};
 use tables::sound::sound_tables;
 
-// Session and tables go apart everywhere, as C hands them over, and of the three each operation is lent for writing what it
-// changes. An operation on a sound state: refused at the gate, refused by its own checks, or done, and then its value.
+// An operation on a sound state: refused at the gate, refused by its own checks, or done, and then its value.
 pub fn serve(
     order: Order,
     state: &mut State,

@@ -75,8 +75,8 @@ fn with_seen(set: u64, m: u32, repositories: u64, label: u64) -> u64
     }
 }
 
-// A table that is long enough and whose models have sound labels: the tables are tested before the session. Tried as an array of its
-// words, whose length is then tested again: get in RO 0.58 to 0.65 of C.
+// A table that is long enough and whose models have sound labels: the tables are tested before the session. Tried as an array of
+// its words, whose length is then tested again: get in RO 0.58 to 0.65 of C.
 #[derive(Clone, Copy)]
 struct Tested<'a> {
     table: &'a [u64],
@@ -97,7 +97,8 @@ impl Tested<'_> {
     }
 }
 
-// The access sets share no model, and each lies within the models that may be seen. Where there is no access, as on a fresh
+// The access sets share no model, and each lies within the models that may be seen, as `is_within` of `tables` says it of sets of
+// its own. Where there is no access, as on a fresh
 // chip, there is nothing to look for.
 #[tactic(auto, using(crate::specs::Laws::Sound::no_access_lem, crate::specs::Laws::Sound::access_by_sets))]
 fn sound_access(s: State, tested: Tested) -> bool

@@ -216,7 +216,7 @@ impl fmt::Display for Refusal {
     }
 }
 
-// Which table is full.
+// Which table is full. By this name and not as `From<Kind>`: so its definition and its theorem have it.
 pub fn room_of(kind: Kind) -> Place
     ensures { place_number result ≡ room_of kind }
 {

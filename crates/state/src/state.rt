@@ -1,5 +1,5 @@
-// A session, as a caller holds it between calls: integers alone, every bit pattern a value, and the test of soundness
-// judges each.
+// A session, as a caller holds it between calls: integers alone, as C hands them over, every bit pattern a value, and the test of
+// soundness judges each.
 ghost use Rattle.std.specs.Prelude.{◌≡◌};
 ghost use Rattle.state.specs.Numbers.{transaction_number, told, value_told};
 ghost use Rattle.state.specs.States.{is_open, under as is_under, with_recording, with_transaction, with_repositories, with_access, woken as woken_in, ended as ended_state, closed_state, opened_state, answer};
@@ -47,8 +47,8 @@ pub struct State {
     pub transaction: u32,
 }
 
-// A refusal, its place and the operation that it was given to, by numbers, as C reads them. The last two bytes carry nothing: they have a name because
-// the compiler copies structs without a hole in few moves, and others field by field.
+// A refusal, its place and the operation that it was given to, by numbers, as C reads them. The last two bytes carry nothing: they
+// have a name because the compiler copies structs without a hole in few moves, and others field by field.
 #[repr(C)]
 #[derive(Clone, Copy, Debug, PartialEq, Eq)]
 pub struct Event {
@@ -98,6 +98,7 @@ impl State {
         self.transaction == u32::from(transaction)
     }
 
+    // 0 or 1: a session holds the number, and so has the definition.
     pub fn with_recording(self, on: u32) -> State
         ensures { result ≡ with_recording self on }
     {

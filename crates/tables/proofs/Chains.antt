@@ -1,19 +1,16 @@
 -- What a chain over numbers or words computes, in the words of the definitions.
-use Rattle.std.proofs.Common.{◌≡◌, refl, ap, ◌∙◌, Bool, ◌&&◌, List, [], ◌∷◌, ◌++◌, ℕ, zero, suc, ◌+◌, ◌<◌, ◌≤◌, length, take, get_or, add-zero, zero-add, arith, eqb}
+use Rattle.std.proofs.Common.{◌≡◌, refl, ap, ◌∙◌, Bool, ◌&&◌, List, [], ◌∷◌, ℕ, zero, suc, ◌+◌, ◌<◌, ◌≤◌, length, take, get_or, zero-add, arith, eqb}
 use Rattle.std.proofs.Math.Bool.{and-true}
 use Rattle.std.specs.List.{list_all, range_with_len, fold}
 use Rattle.std.specs.Int.Bits.{bit_or}
 use Rattle.std.proofs.lemmas.List.Folds.{list_all-append}
 use Rattle.std.proofs.lemmas.List.Sums.{fold_push}
+use Rattle.words.proofs.Chains.{one_further}
 use Rattle.std.proofs.Math.Seq.{take-suc}
 use Rattle.logic.specs.Search.{all_b}
 use Rattle.tables.specs.Laws.Values.{or_zero}
 
 -- ---- a test of the numbers below n
-
-one_further : (a n : ℕ) → range_with_len a (suc n) ≡ range_with_len a n ++ ((a + n) ∷ [])
-one_further a zero = rw (add-zero) refl
-one_further a (suc n) = ap (λ (l : List ℕ). a ∷ l) (one_further (a + 1) n ∙ ap (λ (x : ℕ). range_with_len (a + 1) n ++ (x ∷ [])) (omega arith))
 
 pub all_counted : (f : ℕ → Bool) (n : ℕ) → list_all f (range_with_len 0 n) ≡ all_b n f
 unfolding all_b

@@ -17,7 +17,7 @@ use words::layout::{Kind, count};
 use words::sets::has;
 
 // Whether instance j goes with entry n of a kind. What a value word names may be any number. Kind and number stand apart here as
-// `held_back` and `remove` take them.
+// in `held_back` and `remove`, which are public and in whose theorems they do.
 fn goes_with(t: &[u64], kind: Kind, n: u32, j: u64) -> bool
     ensures { result ≡ goes_with t.now kind n j }
 {

@@ -102,7 +102,7 @@ impl Going {
     pub fn may_go(self, j: u64) -> bool
         ensures { result ≡ spec.may_go self j }
     {
-        ((self.low | self.high) >> (j % HALF)) % 2 == 1
+        sets::has(self.low | self.high, (j % HALF) as u32)
     }
 
     // No number past the last instance goes.
@@ -127,7 +127,8 @@ pub fn is_of(t: &[u64], m: u32, i: u32) -> bool
     lies_in(header_at(t, i), m)
 }
 
-// The same of an instance by how many are present: a loop over them then asks for no length.
+// The same of an instance by how many are present: a loop over them then asks for no length. Tried by `is_of`: deleting and
+// creating a model in `core` 0.98 to 1.06 of C.
 fn is_of_present(t: &[u64], all: u32, m: u32, i: u32) -> bool
     requires { Present t.now kinds.Instance all }
     ensures { result ≡ goes_with t.now kinds.Model m i }

@@ -3,7 +3,7 @@ ghost use Rattle.std.specs.Prelude.{◌≡◌};
 ghost use Rattle.tables.specs.Quick.Live.{no_live, with_live, of_schema, within, model_fits};
 
 use dictionary::schema;
-use words::sets::{BITS, EMPTY, with};
+use words::sets::{BITS, EMPTY, has, with};
 
 // A schema is a number here, 1 or 2, as `schema_in` and `schema` say it.
 #[derive(Clone, Copy)]
@@ -46,11 +46,14 @@ impl Live {
     }
 
     // An instance lies in a live model of its type's schema (CHIP, sound tables). A model past the last is found out among the
-    // strays, and the bit is asked for in one expression, not by `has`: so the compiler makes one instruction of it.
+    // strays.
     pub fn model_fits(self, ty: u32, h: u64) -> bool
         ensures { result ≡ model_fits self ty h }
     {
-        (self.of_schema(schema(ty)) >> (h / 0x100 % u64::from(BITS))) % 2 == 1
+        has(
+            self.of_schema(schema(ty)),
+            (h / 0x100 % u64::from(BITS)) as u32,
+        )
     }
 }
 

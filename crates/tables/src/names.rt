@@ -3,17 +3,15 @@ ghost use Rattle.std.specs.Prelude.{◌≡◌};
 ghost use Rattle.tables.specs.Quick.Names.{chain_of};
 ghost use Rattle.tables.specs.Sound.{same_name};
 
-use words::fields::{is_free, name_in, repository_in};
+use words::fields::{is_free, is_named, name_in, repository_in};
 
 // Twice as many as there are models, so that labels seldom share a chain.
 pub const CHAINS: usize = 128;
 
-// By fields and not by `is_named`: in the test of labels that is an instruction less for each.
 pub fn same_name(v: u64, w: u64) -> bool
     ensures { result ≡ same_name v w }
 {
-    !is_free(v)
-        & (!is_free(w) & (repository_in(w) == repository_in(v)) & (name_in(w) == name_in(v)))
+    !is_free(v) & is_named(w, repository_in(v), name_in(v))
 }
 
 // Entries with one name share a chain.

@@ -9,7 +9,7 @@ use super::pointers::SECOND;
 use dictionary::mark_in;
 use words::fields::{VALUES, is_flagged};
 use words::layout::{Kind, WORDS, count, place};
-use words::sets::BITS;
+use words::sets::{BITS, has};
 
 // The words of an instance, read once: its header and its value words.
 #[derive(Clone, Copy)]
@@ -85,5 +85,8 @@ fn is_target(t: &[u64; WORDS], shape: u64, v: u64) -> bool
     ensures { result ≡ target_fits t.now shape v }
 {
     v < u64::from(count(Kind::Instance))
-        && (shape >> (t[place(Kind::Instance, v as u32)] % u64::from(BITS))) % 2 == 1
+        && has(
+            shape,
+            (t[place(Kind::Instance, v as u32)] % u64::from(BITS)) as u32,
+        )
 }

@@ -17,7 +17,7 @@ use Rattle.words.specs.Quick.Present.{Present}
 use Rattle.words.specs.Laws.Copies.{no_difference}
 use Rattle.words.specs.Laws.Present.{none_present}
 
-one_further : (a n : ℕ) → range_with_len a (suc n) ≡ range_with_len a n ++ ((a + n) ∷ [])
+pub one_further : (a n : ℕ) → range_with_len a (suc n) ≡ range_with_len a n ++ ((a + n) ∷ [])
 one_further a zero = rw (add-zero) refl
 one_further a (suc n) = ap (λ (l : List ℕ). a ∷ l) (one_further (a + 1) n ∙ ap (λ (x : ℕ). range_with_len (a + 1) n ++ (x ∷ [])) (omega arith))
 
