@@ -4,5 +4,6 @@
 
 pub mod conditions;
 pub mod gate;
+pub mod numbers;
 pub mod operations;
 pub mod shared;

@@ -1,12 +1,12 @@
 // Checks in the page's order: each refuses where its condition holds, and `?` goes on to the next where it does not.
-ghost use Rattle.std.specs.Prelude.{◌∷◌};
+ghost use Rattle.std.specs.Prelude.{◌≡◌, ◌∷◌, cond};
 ghost use Rattle.state.specs.Refusals.{◌on◌};
 ghost use Rattle.state.specs.Numbers.{number_of, place_number};
 ghost use Rattle.checks.specs.Checks.{◌gives◌, in_reach, writable as writable_of, accessed as accessed_of};
 ghost use Rattle.checks.specs.Quick.Asked.{Asks};
 
 use crate::conditions::{away, missing, no_access, no_writing};
-use state::refusals::{Place, Refusal, Refused};
+use state::refusals::{Place, Refusal, Refused, on};
 use state::state::State;
 
 // The refusal on its place if its condition holds.
@@ -44,4 +44,14 @@ pub fn accessed(label: u64, m: u32, s: State) -> Result<(), Refused>
 {
     refuse_if(missing(label), Refusal::MoNexs, Place::First)?;
     refuse_if(no_access(s, m), Refusal::MxNdef, Place::First)
+}
+
+// By numbers: the refusal on its place if its condition holds, else what the rest gives.
+pub fn first(condition: bool, refusal: u8, place: u8, rest: u32) -> u32
+    ensures { result ≡ cond condition (refusal on place) rest }
+{
+    if !condition {
+        return rest;
+    }
+    on(refusal, place)
 }

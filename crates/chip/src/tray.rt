@@ -6,7 +6,8 @@ ghost use Rattle.session.specs.Runs.{chip_of};
 
 use session::answers::{carried, finished, log_stays, unsound};
 use session::call::{is_sound, serve};
-use state::state::{Answer, Order, Session, answer_of};
+pub use state::state::Order;
+use state::state::{Answer, Session, answer_of};
 
 // What it was answered, as C reads it; the session goes on to the next one.
 #[repr(C)]

@@ -5,9 +5,10 @@ ghost use Rattle.state.specs.Numbers.{told, value_told};
 ghost use Rattle.state.specs.States.{session, answer};
 ghost use Rattle.session.specs.Quick.Answers.{log_stays, log_of};
 
-use state::events::{blank_log, noted};
+use crate::numbers;
+use state::numbers::{told, value_told};
 use state::refusals::{Place, Refusal, Refused};
-use state::state::{Answer, Log, Session, State, answer_of};
+use state::state::{Answer, Session, State, answer_of};
 
 // SY_ERR adds no event: the session goes back as it came.
 pub fn unsound(x: Session) -> Answer
@@ -30,25 +31,9 @@ pub fn carried(x: Session, given: Result<u32, Refused>, state: State) -> Answer
     answer_of(given, Session { state, log: x.log })
 }
 
-// A refusal may add an event, and a closed session has none.
-fn log_after(op: u32, given: Result<u32, Refused>, x: Session, s: State) -> Log
-    ensures { result ≡ log_of op (told given) x s }
-{
-    match given {
-        Err(refused) => noted(x.log, x.state, op, refused),
-        Ok(_) => { if s.is_open() { x.log } else { blank_log() } }
-    }
-}
-
-// The answer for an operation, done or refused. A refused one comes with the state as it was, so that the answer is built once.
+// The answer for an operation, done or refused. A refused one comes with the state as it was.
 pub fn finished(op: u32, x: Session, given: Result<u32, Refused>, state: State) -> Answer
     ensures { result ≡ answer (told given) (value_told given) (session state (log_of op (told given) x state)) }
 {
-    answer_of(
-        given,
-        Session {
-            state,
-            log: log_after(op, given, x, state),
-        },
-    )
+    numbers::finished(op, x, told(given), value_told(given), state)
 }

@@ -4,7 +4,8 @@
 ghost use Rattle.std.specs.Prelude.{◌≡◌};
 ghost use Rattle.checks.specs.Operations.{operation_of};
 ghost use Rattle.session.specs.Rows.{performed};
-ghost use Rattle.session.specs.Quick.Served.{serving, served, served_by};
+ghost use Rattle.state.specs.Quick.Lent.{state_of};
+ghost use Rattle.session.specs.Quick.Served.{serving, served, served_by, lending, lent_by};
 ghost use Rattle.session.specs.Sound.{sound as sound_state};
 ghost use Rattle.session.specs.Step.{outcome, core as core_of, step};
 
@@ -13,6 +14,8 @@ use crate::perform::own;
 use crate::sound::sound_session;
 use checks::gate::gate;
 use checks::operations::operation_of;
+use state::lent::{MARKS, SETS, marks_of, sets_of, state_of};
+use state::numbers::{told, value_told};
 use state::refusals::Refused;
 use state::state::{Answer, Order, Session, State, Transaction};
 use tables::sound::sound_tables;
@@ -30,6 +33,36 @@ pub fn serve(
     let op = operation_of(order.op);
     gate(op, *state)?;
     own(op, order, state, working, kept)
+}
+
+// What an operation answers, by numbers, where its state was lent as two rows of them.
+#[derive(Clone, Copy, Debug, PartialEq, Eq)]
+pub struct Reply {
+    pub refusal: u32,
+    pub value: u32,
+}
+
+// The same with the state lent as two rows of numbers, for who holds it so.
+pub fn serve_lent(
+    op: u32,
+    a: u32,
+    b: u32,
+    c: u32,
+    working: &mut [u64],
+    kept: &mut [u64],
+    sets: &mut [u64; SETS],
+    marks: &mut [u32; MARKS],
+) -> Reply
+    ensures { lending result sets.new marks.new working.new kept.new ≡ lent_by (performed (operation_of op) a b c (state_of sets.old marks.old) working.old) working.old kept.old }
+{
+    let mut state = state_of(*sets, *marks);
+    let given = serve(Order { op, a, b, c }, &mut state, working, kept);
+    *sets = sets_of(state);
+    *marks = marks_of(state);
+    Reply {
+        refusal: told(given),
+        value: value_told(given),
+    }
 }
 
 // Where the log stays, as it nearly always does, the answer is made at once: so the compiler copies the events once less. These

@@ -5,6 +5,7 @@ pub mod answers;
 pub mod call;
 mod effects;
 mod in_session;
+pub mod numbers;
 mod perform;
 mod readers;
 mod sound;

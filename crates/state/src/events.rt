@@ -3,7 +3,8 @@ ghost use Rattle.std.specs.Prelude.{◌≡◌};
 ghost use Rattle.state.specs.Numbers.{number_on};
 ghost use Rattle.state.specs.States.{log, added as added_to, blank_log, session, noted as noted_in};
 
-use crate::refusals::Refused;
+use crate::numbers;
+use crate::refusals::{Refused, on};
 use crate::state::{Event, Log, State};
 
 // How many events a log holds.
@@ -29,7 +30,7 @@ pub fn blank_log() -> Log
 // With one event more behind the first n; of sixteen the oldest drops out. One array is filled either way, and moved in a
 // loop, not named one by one: so the compiler keeps the events in memory and copies them in few moves. Tried by
 // `copy_from_slice`: a get in `core` takes 1.45 of C and not 1.26, an order of a long tray 30 ns and not 19.
-fn added(before: [Event; SLOTS], n: u64, e: Event) -> Log
+pub(crate) fn added(before: [Event; SLOTS], n: u64, e: Event) -> Log
     ensures { result ≡ added_to (log n before) e }
 {
     let mut events = [e; SLOTS];
@@ -51,17 +52,10 @@ fn added(before: [Event; SLOTS], n: u64, e: Event) -> Log
 pub fn noted(l: Log, s: State, op: u32, refused: Refused) -> Log
     ensures { result ≡ (noted_in (session s l) op (number_on refused)).log }
 {
-    if s.is_open() & (s.recording == 1) {
-        return added(
-            l.events,
-            l.count,
-            Event {
-                op,
-                refusal: u8::from(refused.refusal),
-                place: u8::from(refused.place),
-                unused: 0,
-            },
-        );
-    }
-    l
+    numbers::noted(
+        l,
+        s,
+        op,
+        on(u8::from(refused.refusal), u8::from(refused.place)),
+    )
 }

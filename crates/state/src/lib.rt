@@ -2,5 +2,7 @@
 #![tactic(auto)]
 
 pub mod events;
+pub mod lent;
+pub mod numbers;
 pub mod refusals;
 pub mod state;

@@ -1,6 +1,6 @@
 // The refusals, by the standard's names, and the places that they name.
-ghost use Rattle.std.specs.Prelude.{◌≡◌};
-ghost use Rattle.state.specs.Refusals.{room_of};
+ghost use Rattle.std.specs.Prelude.{◌≡◌, Some};
+ghost use Rattle.state.specs.Refusals.{◌on◌, number_in, place_in, room_of};
 ghost use Rattle.state.specs.Numbers.{number_of, place_number, letters_of, Numbers};
 
 use std::fmt;
@@ -211,6 +211,8 @@ impl TryFrom<u16> for Refusal {
 }
 
 impl fmt::Display for Refusal {
+    ghost output = { λ refusal. Some (letters_of refusal) };
+
     fn fmt<W: fmt::Write>(&self, f: &mut fmt::Formatter<W>) -> fmt::Result {
         f.write_str(self.name())
     }
@@ -225,4 +227,24 @@ pub fn room_of(kind: Kind) -> Place
         Kind::SchemaInstance => Place::SchemaInstances,
         Kind::Instance => Place::Instances,
     }
+}
+
+// A refusal on its place, as one number, and what such a number says of the two: of any number, one of the page or not. An event
+// has a byte for each.
+pub fn on(number: u8, place: u8) -> u32
+    ensures { result ≡ number on place }
+{
+    u32::from(number) + 0x100 * u32::from(place)
+}
+
+pub fn number_in(refusal: u32) -> u8
+    ensures { result ≡ number_in refusal }
+{
+    (refusal % 0x100) as u8
+}
+
+pub fn place_in(refusal: u32) -> u8
+    ensures { result ≡ place_in refusal }
+{
+    (refusal / 0x100 % 0x100) as u8
 }

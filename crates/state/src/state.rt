@@ -5,6 +5,7 @@ ghost use Rattle.state.specs.Numbers.{transaction_number, told, value_told};
 ghost use Rattle.state.specs.States.{is_open, under as is_under, with_recording, with_transaction, with_repositories, with_access, woken as woken_in, ended as ended_state, closed_state, opened_state, answer};
 
 use crate::events::SLOTS;
+use crate::numbers;
 use crate::refusals::Refused;
 use words::sets::{EMPTY, has, with};
 
@@ -95,7 +96,7 @@ impl State {
     pub fn under(self, transaction: Transaction) -> bool
         ensures { result ≡ is_under self (transaction_number transaction) }
     {
-        self.transaction == u32::from(transaction)
+        numbers::under(self, u32::from(transaction))
     }
 
     // 0 or 1: a session holds the number, and so has the definition.
@@ -111,10 +112,7 @@ impl State {
     pub fn with_transaction(self, transaction: Transaction) -> State
         ensures { result ≡ with_transaction self (transaction_number transaction) }
     {
-        State {
-            transaction: u32::from(transaction),
-            ..self
-        }
+        numbers::with_transaction(self, u32::from(transaction))
     }
 
     pub fn with_repositories(self, repositories: u64) -> State
@@ -146,7 +144,7 @@ impl State {
     pub fn ended(self, transaction: Transaction) -> State
         ensures { result ≡ ended_state self (transaction_number transaction) }
     {
-        self.with_access(EMPTY, EMPTY).with_transaction(transaction)
+        numbers::ended(self, u32::from(transaction))
     }
 }
 
@@ -173,22 +171,9 @@ pub fn opened_state() -> State
     }
 }
 
-// The value or the refusal that was given, and the session that goes back: this is the one place that builds answers.
+// The value or the refusal that was given, and the session that goes back.
 pub fn answer_of(given: Result<u32, Refused>, session: Session) -> Answer
     ensures { result ≡ answer (told given) (value_told given) session }
 {
-    match given {
-        Ok(value) => Answer {
-            refusal: 0,
-            place: 0,
-            value,
-            session,
-        },
-        Err(refused) => Answer {
-            refusal: u16::from(u8::from(refused.refusal)),
-            place: u16::from(u8::from(refused.place)),
-            value: 0,
-            session,
-        },
-    }
+    numbers::answer_of(numbers::told(given), numbers::value_told(given), session)
 }

@@ -4,7 +4,7 @@
 use Rattle.std.specs.Prelude.{◌≡◌}
 use Rattle.std.proofs.Common.{sym, ◌∙◌}
 use Rattle.session.specs.Step.{outcome}
-use Rattle.session.specs.Quick.Served.{serving, served}
+use Rattle.session.specs.Quick.Served.{serving, served, lending}
 use Rattle.session.specs.Laws.Served.{given_one}
 use Rattle.state.specs.Laws.Numbers.{place_number_one, numbers_one}
 use Rattle.checks.specs.Laws.Checks.{asks_one}
@@ -75,6 +75,19 @@ use Rattle.tables.proofs.view.is_set.Reads as tables-view-is-set
 use Rattle.tables.proofs.view.value_at.Reads as tables-view-value-at
 use Rattle.state.proofs.events.blank_log.Reads as state-events-blank-log
 use Rattle.state.proofs.events.noted.Reads as state-events-noted
+use Rattle.state.proofs.lent.sets_of.Reads as state-lent-sets-of
+use Rattle.state.proofs.lent.marks_of.Reads as state-lent-marks-of
+use Rattle.state.proofs.lent.state_of.Reads as state-lent-state-of
+use Rattle.state.proofs.numbers.told.Reads as state-numbers-told
+use Rattle.state.proofs.numbers.value_told.Reads as state-numbers-value-told
+use Rattle.state.proofs.numbers.noted.Reads as state-numbers-noted
+use Rattle.state.proofs.numbers.under.Reads as state-numbers-under
+use Rattle.state.proofs.numbers.with_transaction.Reads as state-numbers-with-transaction
+use Rattle.state.proofs.numbers.ended.Reads as state-numbers-ended
+use Rattle.state.proofs.numbers.answer_of.Reads as state-numbers-answer-of
+use Rattle.state.proofs.refusals.on.Reads as state-refusals-number-on
+use Rattle.state.proofs.refusals.number_in.Reads as state-refusals-number-in
+use Rattle.state.proofs.refusals.place_in.Reads as state-refusals-place-in
 use Rattle.state.proofs.refusals.Refusal.on.Reads as state-refusals-on
 use Rattle.state.proofs.refusals.U8FromRefusal.from.Reads as state-refusals-number
 use Rattle.state.proofs.refusals.U8FromPlace.from.Reads as state-refusals-place-number
@@ -110,12 +123,18 @@ use Rattle.checks.proofs.shared.refuse_if.Reads as checks-shared-refuse-if
 use Rattle.checks.proofs.shared.in_reach.Reads as checks-shared-in-reach
 use Rattle.checks.proofs.shared.writable.Reads as checks-shared-writable
 use Rattle.checks.proofs.shared.accessed.Reads as checks-shared-accessed
+use Rattle.checks.proofs.shared.first.Reads as checks-shared-first
+use Rattle.checks.proofs.numbers.in_reach.Reads as checks-numbers-in-reach
+use Rattle.checks.proofs.numbers.writable.Reads as checks-numbers-writable
 use Rattle.checks.proofs.gate.gate.Reads as checks-gate-gate
 use Rattle.session.proofs.answers.unsound.Reads as session-answers-unsound
 use Rattle.session.proofs.answers.log_stays.Reads as session-answers-log-stays
 use Rattle.session.proofs.answers.carried.Reads as session-answers-carried
 use Rattle.session.proofs.answers.finished.Reads as session-answers-finished
+use Rattle.session.proofs.numbers.log_stays.Reads as session-numbers-log-stays
+use Rattle.session.proofs.numbers.finished.Reads as session-numbers-finished
 use Rattle.session.proofs.call.serve.Reads as session-call-serve
+use Rattle.session.proofs.call.serve_lent.Reads as session-call-serve-lent
 use Rattle.session.proofs.call.core.Reads as session-call-core
 use Rattle.session.proofs.call.is_sound.Reads as session-call-is-sound
 use Rattle.session.proofs.call.call.Reads as session-call-call
@@ -332,8 +351,26 @@ state_events_blank_log_one κs a x y s s' p q = p ∙ sym q
 pub state_events_noted_one : (κs : _) (a : _) (x y : _) (s s' : _) → state-events-noted.Post κs a x s → state-events-noted.Post κs a y s' → x ≡ y
 state_events_noted_one κs a x y s s' p q = p ∙ sym q
 
+pub state_lent_sets_of_one : (κs : _) (a : _) (x y : _) (s s' : _) → state-lent-sets-of.Post κs a x s → state-lent-sets-of.Post κs a y s' → x ≡ y
+state_lent_sets_of_one κs a x y s s' p q = p ∙ sym q
+
+pub state_lent_marks_of_one : (κs : _) (a : _) (x y : _) (s s' : _) → state-lent-marks-of.Post κs a x s → state-lent-marks-of.Post κs a y s' → x ≡ y
+state_lent_marks_of_one κs a x y s s' p q = p ∙ sym q
+
+pub state_lent_state_of_one : (κs : _) (a : _) (x y : _) (s s' : _) → state-lent-state-of.Post κs a x s → state-lent-state-of.Post κs a y s' → x ≡ y
+state_lent_state_of_one κs a x y s s' p q = p ∙ sym q
+
 pub state_refusals_on_one : (κs : _) (a : _) (x y : _) (s s' : _) → state-refusals-on.Post κs a x s → state-refusals-on.Post κs a y s' → x ≡ y
 state_refusals_on_one κs a x y s s' p q = p ∙ sym q
+
+pub state_refusals_number_on_one : (κs : _) (a : _) (x y : _) (s s' : _) → state-refusals-number-on.Post κs a x s → state-refusals-number-on.Post κs a y s' → x ≡ y
+state_refusals_number_on_one κs a x y s s' p q = p ∙ sym q
+
+pub state_refusals_number_in_one : (κs : _) (a : _) (x y : _) (s s' : _) → state-refusals-number-in.Post κs a x s → state-refusals-number-in.Post κs a y s' → x ≡ y
+state_refusals_number_in_one κs a x y s s' p q = p ∙ sym q
+
+pub state_refusals_place_in_one : (κs : _) (a : _) (x y : _) (s s' : _) → state-refusals-place-in.Post κs a x s → state-refusals-place-in.Post κs a y s' → x ≡ y
+state_refusals_place_in_one κs a x y s s' p q = p ∙ sym q
 
 pub state_refusals_number_one : (κs : _) (a : _) (x y : _) (s s' : _) → state-refusals-number.Post κs a x s → state-refusals-number.Post κs a y s' → x ≡ y
 state_refusals_number_one κs a x y s s' p q = p ∙ sym q
@@ -382,6 +419,27 @@ state_state_opened_state_one κs a x y s s' p q = p ∙ sym q
 
 pub state_state_answer_of_one : (κs : _) (a : _) (x y : _) (s s' : _) → state-state-answer-of.Post κs a x s → state-state-answer-of.Post κs a y s' → x ≡ y
 state_state_answer_of_one κs a x y s s' p q = p ∙ sym q
+
+pub state_numbers_told_one : (κs : _) (a : _) (x y : _) (s s' : _) → state-numbers-told.Post κs a x s → state-numbers-told.Post κs a y s' → x ≡ y
+state_numbers_told_one κs a x y s s' p q = p ∙ sym q
+
+pub state_numbers_value_told_one : (κs : _) (a : _) (x y : _) (s s' : _) → state-numbers-value-told.Post κs a x s → state-numbers-value-told.Post κs a y s' → x ≡ y
+state_numbers_value_told_one κs a x y s s' p q = p ∙ sym q
+
+pub state_numbers_noted_one : (κs : _) (a : _) (x y : _) (s s' : _) → state-numbers-noted.Post κs a x s → state-numbers-noted.Post κs a y s' → x ≡ y
+state_numbers_noted_one κs a x y s s' p q = p ∙ sym q
+
+pub state_numbers_under_one : (κs : _) (a : _) (x y : _) (s s' : _) → state-numbers-under.Post κs a x s → state-numbers-under.Post κs a y s' → x ≡ y
+state_numbers_under_one κs a x y s s' p q = p ∙ sym q
+
+pub state_numbers_with_transaction_one : (κs : _) (a : _) (x y : _) (s s' : _) → state-numbers-with-transaction.Post κs a x s → state-numbers-with-transaction.Post κs a y s' → x ≡ y
+state_numbers_with_transaction_one κs a x y s s' p q = p ∙ sym q
+
+pub state_numbers_ended_one : (κs : _) (a : _) (x y : _) (s s' : _) → state-numbers-ended.Post κs a x s → state-numbers-ended.Post κs a y s' → x ≡ y
+state_numbers_ended_one κs a x y s s' p q = p ∙ sym q
+
+pub state_numbers_answer_of_one : (κs : _) (a : _) (x y : _) (s s' : _) → state-numbers-answer-of.Post κs a x s → state-numbers-answer-of.Post κs a y s' → x ≡ y
+state_numbers_answer_of_one κs a x y s s' p q = p ∙ sym q
 
 -- ---- checks
 
@@ -439,6 +497,15 @@ checks_shared_writable_one κs a x y s s' p q = asks_one _ x y p q
 pub checks_shared_accessed_one : (κs : _) (a : _) (x y : _) (s s' : _) → checks-shared-accessed.Post κs a x s → checks-shared-accessed.Post κs a y s' → x ≡ y
 checks_shared_accessed_one κs a x y s s' p q = asks_one _ x y p q
 
+pub checks_shared_first_one : (κs : _) (a : _) (x y : _) (s s' : _) → checks-shared-first.Post κs a x s → checks-shared-first.Post κs a y s' → x ≡ y
+checks_shared_first_one κs a x y s s' p q = p ∙ sym q
+
+pub checks_numbers_in_reach_one : (κs : _) (a : _) (x y : _) (s s' : _) → checks-numbers-in-reach.Post κs a x s → checks-numbers-in-reach.Post κs a y s' → x ≡ y
+checks_numbers_in_reach_one κs a x y s s' p q = p ∙ sym q
+
+pub checks_numbers_writable_one : (κs : _) (a : _) (x y : _) (s s' : _) → checks-numbers-writable.Post κs a x s → checks-numbers-writable.Post κs a y s' → x ≡ y
+checks_numbers_writable_one κs a x y s s' p q = p ∙ sym q
+
 pub checks_gate_gate_one : (κs : _) (a : _) (x y : _) (s s' : _) → checks-gate-gate.Post κs a x s → checks-gate-gate.Post κs a y s' → x ≡ y
 checks_gate_gate_one κs a x y s s' p q = asks_one _ x y p q
 
@@ -456,10 +523,21 @@ session_answers_carried_one κs a x y s s' p q = p ∙ sym q
 pub session_answers_finished_one : (κs : _) (a : _) (x y : _) (s s' : _) → session-answers-finished.Post κs a x s → session-answers-finished.Post κs a y s' → x ≡ y
 session_answers_finished_one κs a x y s s' p q = p ∙ sym q
 
+pub session_numbers_log_stays_one : (κs : _) (a : _) (x y : _) (s s' : _) → session-numbers-log-stays.Post κs a x s → session-numbers-log-stays.Post κs a y s' → x ≡ y
+session_numbers_log_stays_one κs a x y s s' p q = p ∙ sym q
+
+pub session_numbers_finished_one : (κs : _) (a : _) (x y : _) (s s' : _) → session-numbers-finished.Post κs a x s → session-numbers-finished.Post κs a y s' → x ≡ y
+session_numbers_finished_one κs a x y s s' p q = p ∙ sym q
+
 pub session_call_serve_one : (κs : _) (a : _) (x y : _) (s s' : _) → session-call-serve.Post κs a x s → session-call-serve.Post κs a y s'
     → (x ≡ y)
     × (serving (served x s.1.0.now) s.1.1.0.now s.1.1.1.0.now ≡ serving (served y s'.1.0.now) s'.1.1.0.now s'.1.1.1.0.now)
 session_call_serve_one κs a x y s s' p q = (given_one x y _ _ _ _ _ _ (p ∙ sym q), p ∙ sym q)
+
+pub session_call_serve_lent_one : (κs : _) (a : _) (x y : _) (s s' : _) → session-call-serve-lent.Post κs a x s → session-call-serve-lent.Post κs a y s'
+    → lending x s.1.1.1.1.1.1.0.now s.1.1.1.1.1.1.1.0.now s.1.1.1.1.0.now s.1.1.1.1.1.0.now
+    ≡ lending y s'.1.1.1.1.1.1.0.now s'.1.1.1.1.1.1.1.0.now s'.1.1.1.1.0.now s'.1.1.1.1.1.0.now
+session_call_serve_lent_one κs a x y s s' p q = p ∙ sym q
 
 pub session_call_core_one : (κs : _) (a : _) (x y : _) (s s' : _) → session-call-core.Post κs a x s → session-call-core.Post κs a y s'
     → outcome x s.1.1.1.1.1.0.now s.1.1.1.1.1.1.0.now ≡ outcome y s'.1.1.1.1.1.0.now s'.1.1.1.1.1.1.0.now

@@ -15,7 +15,8 @@ use Rattle.session.specs.Effects.{Effect}
 use Rattle.session.specs.Rows.{performed}
 use Rattle.session.specs.Step.{outcome, finished_answer, core}
 use Rattle.session.specs.Quick.Answers.{log_stays, log_of}
-use Rattle.session.specs.Quick.Served.{Served, Serving, serving, served, served_by, Reply, Lending, lending, lent_from, lent_by}
+use Rattle.session.specs.declared.call.Reply.{Reply}
+use Rattle.session.specs.Quick.Served.{Served, Serving, serving, served, served_by, Lending, lending, lent_from, lent_by}
 use Rattle.state.specs.Laws.Numbers.{told_one}
 use Rattle.session.specs.Laws.Range.{Refused, done_or_refused}
 use Rattle.session.specs.Laws.Answers.{answer_built, answer_carried, stays_done}

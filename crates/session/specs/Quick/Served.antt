@@ -4,6 +4,7 @@ use Rattle.state.specs.declared.state.State.{State}
 use Rattle.state.specs.declared.refusals.Refused.{Refused}
 use Rattle.state.specs.Numbers.{told, value_told}
 use Rattle.state.specs.Quick.Lent.{sets_of, marks_of}
+use Rattle.session.specs.declared.call.Reply.{Reply}
 use Rattle.session.specs.Effects.{Effect, working_after, kept_after}
 
 pub record Served : Type 0 where
@@ -27,12 +28,7 @@ abbrev pub served_by : Effect → List ℕ → List ℕ → Serving
 served_by e w k =
     serving (record { refusal = e.refusal; value = e.value; state = e.state }) (working_after e.tables w k) (kept_after e.tables w k)
 
--- the same where the state was lent as two rows of numbers, its sets and its marks, and is read back. The code lends the state
--- itself; these stand for the laws over them.
-pub record Reply : Type 0 where
-  pub refusal : ℕ
-  pub value : ℕ
-
+-- the same where the state was lent as two rows of numbers, its sets and its marks, and is read back (`serve_lent`)
 pub record Lending : Type 0 where
   pub reply : Reply
   pub sets : List ℕ
