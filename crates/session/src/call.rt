@@ -35,7 +35,7 @@ pub fn serve(
     own(op, order, state, working, kept)
 }
 
-// What an operation answers, by numbers, where its state was lent as two rows of them.
+// What an operation answers, by numbers, where its state was lent as two rows of them. (A tray's `Reply` has the place apart.)
 #[derive(Clone, Copy, Debug, PartialEq, Eq)]
 pub struct Reply {
     pub refusal: u32,

@@ -1,4 +1,4 @@
-// The log of events. This is the one place that adds an event.
+// The log of events: `added` puts an event in, for `numbers::noted` alone.
 ghost use Rattle.std.specs.Prelude.{◌≡◌};
 ghost use Rattle.state.specs.Numbers.{number_on};
 ghost use Rattle.state.specs.States.{log, added as added_to, blank_log, session, noted as noted_in};

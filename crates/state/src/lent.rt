@@ -1,5 +1,5 @@
-// The state as two rows of numbers, its sets and its marks, for who lends it so: an array of numbers may be lent where a struct is
-// not. The library itself lends a state as it is (`session::call::serve`).
+// The state as two rows of numbers, its sets and its marks, for who holds it so. The library lends a state as it is
+// (`session::call::serve`).
 ghost use Rattle.std.specs.Prelude.{◌≡◌};
 ghost use Rattle.state.specs.Quick.Lent.{sets_of, marks_of, state_of};
 

@@ -1,5 +1,5 @@
-// What an event, an answer and a session hold are numbers. These functions take them as they come, one of the page or not, for who
-// has a refusal or a transaction by no more than its number; those over the enums, under the same names, come to these.
+// An event, an answer and a session hold numbers. Here is what was given, by its numbers, and what takes a refusal or a transaction
+// by its number: any number, one of the page or not. The functions of the same names over enums come to these.
 ghost use Rattle.std.specs.Prelude.{◌≡◌};
 ghost use Rattle.state.specs.Numbers.{told, value_told};
 ghost use Rattle.state.specs.States.{session, noted as noted_in, under as is_under, with_transaction, ended as ended_state, answer};
